@@ -1,0 +1,10 @@
+use mathlib.Core.Path.{_≡_}
+use borrow.Author.Needs.{needs}
+use lib.ListN.{length}
+use Rattle.frames.proofs.Spelled.{items-are}
+use Rattle.frames.proofs.kinds.FrameOfClass.record_of.Needs as need
+
+pub returns : need.returns
+returns c =
+    let count : 5 ≡ length (c .args .numbers .now) = search needs in
+    items-are _ (c .args .numbers .now) count (c .in-Continue-one-byte .ensures tt, (c .in-Continue-class-kind-of .ensures tt, (c .in-Continue-three-bytes .ensures tt .0, (c .in-Continue-three-bytes-2 .ensures tt .0, (c .in-Continue-three-bytes-3 .ensures tt .0, tt)))))
