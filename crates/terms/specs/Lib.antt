@@ -1,3 +1,4 @@
 pub mod Limits
+pub mod Money
 pub mod Numbers
 pub mod Questions

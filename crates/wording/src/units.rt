@@ -48,3 +48,15 @@ pub impl fmt::Display for Money as MoneyDisplay {
         write!(f, "{zloty}.{grosz:02}")
     }
 }
+
+// An amount in 10^-4 zloty: 29689493504 is 2968949.3504.
+#[derive(Clone, Copy)]
+pub struct Amount(pub u64);
+
+pub impl fmt::Display for Amount as AmountDisplay {
+    fn fmt<W: fmt::Write>(&self, f: &mut fmt::Formatter<W>) -> fmt::Result {
+        let zloty = self.0 / 10_000;
+        let rest = self.0 % 10_000;
+        write!(f, "{zloty}.{rest:04}")
+    }
+}

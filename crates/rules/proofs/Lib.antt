@@ -1,0 +1,12 @@
+pub mod Parts
+pub mod Pairs
+pub mod Sums
+pub mod Walk
+pub mod Credit
+pub mod Values
+pub mod Classes
+pub mod Runs
+pub mod Accuracy
+pub mod Theorems
+pub mod Fits
+pub mod Tables

@@ -1,0 +1,4 @@
+pub mod Places
+pub mod Asked
+pub mod Growth
+pub mod Filling
