@@ -1,4 +1,8 @@
-// Numbers in human units.
+// Numbers in human units. What each shows is said by `decimals`: so many digits behind the point.
+ghost use Rattle.std.specs.declared.option.Option.the-variants.{Some};
+ghost use Rattle.wording.specs.Decimals.{decimals};
+ghost use lib.Chars.{codes};
+ghost use mathlib.Core.List.{[]};
 use std::fmt;
 
 // A part of the whole, in 10^-5 of it: 330 is 0.330%.
@@ -6,10 +10,14 @@ use std::fmt;
 pub struct Percent(pub u32);
 
 pub impl fmt::Display for Percent as PercentDisplay {
+    ghost shown = { λ x. Some (decimals 3 (x .0) (codes "%")) };
+
     fn fmt<W: fmt::Write>(&self, f: &mut fmt::Formatter<W>) -> fmt::Result {
         let whole = self.0 / 1_000;
-        let rest = self.0 % 1_000;
-        write!(f, "{whole}.{rest:03}%")
+        let first = self.0 / 10 / 10 % 10;
+        let second = self.0 / 10 % 10;
+        let third = self.0 % 10;
+        write!(f, "{whole}.{first}{second}{third}%")
     }
 }
 
@@ -18,10 +26,15 @@ pub impl fmt::Display for Percent as PercentDisplay {
 pub struct Price(pub u32);
 
 pub impl fmt::Display for Price as PriceDisplay {
+    ghost shown = { λ x. Some (decimals 4 (x .0) []) };
+
     fn fmt<W: fmt::Write>(&self, f: &mut fmt::Formatter<W>) -> fmt::Result {
         let whole = self.0 / 10_000;
-        let rest = self.0 % 10_000;
-        write!(f, "{whole}.{rest:04}")
+        let first = self.0 / 10 / 10 / 10 % 10;
+        let second = self.0 / 10 / 10 % 10;
+        let third = self.0 / 10 % 10;
+        let fourth = self.0 % 10;
+        write!(f, "{whole}.{first}{second}{third}{fourth}")
     }
 }
 
@@ -30,10 +43,17 @@ pub impl fmt::Display for Price as PriceDisplay {
 pub struct Duration(pub u32);
 
 pub impl fmt::Display for Duration as DurationDisplay {
+    ghost shown = { λ x. Some (decimals 6 (x .0) []) };
+
     fn fmt<W: fmt::Write>(&self, f: &mut fmt::Formatter<W>) -> fmt::Result {
         let whole = self.0 / 1_000_000;
-        let rest = self.0 % 1_000_000;
-        write!(f, "{whole}.{rest:06}")
+        let first = self.0 / 10 / 10 / 10 / 10 / 10 % 10;
+        let second = self.0 / 10 / 10 / 10 / 10 % 10;
+        let third = self.0 / 10 / 10 / 10 % 10;
+        let fourth = self.0 / 10 / 10 % 10;
+        let fifth = self.0 / 10 % 10;
+        let sixth = self.0 % 10;
+        write!(f, "{whole}.{first}{second}{third}{fourth}{fifth}{sixth}")
     }
 }
 
@@ -42,10 +62,13 @@ pub impl fmt::Display for Duration as DurationDisplay {
 pub struct Money(pub u64);
 
 pub impl fmt::Display for Money as MoneyDisplay {
+    ghost shown = { λ x. Some (decimals 2 (x .0) []) };
+
     fn fmt<W: fmt::Write>(&self, f: &mut fmt::Formatter<W>) -> fmt::Result {
-        let zloty = self.0 / 100;
-        let grosz = self.0 % 100;
-        write!(f, "{zloty}.{grosz:02}")
+        let whole = self.0 / 100;
+        let first = self.0 / 10 % 10;
+        let second = self.0 % 10;
+        write!(f, "{whole}.{first}{second}")
     }
 }
 
@@ -54,9 +77,14 @@ pub impl fmt::Display for Money as MoneyDisplay {
 pub struct Amount(pub u64);
 
 pub impl fmt::Display for Amount as AmountDisplay {
+    ghost shown = { λ x. Some (decimals 4 (x .0) []) };
+
     fn fmt<W: fmt::Write>(&self, f: &mut fmt::Formatter<W>) -> fmt::Result {
-        let zloty = self.0 / 10_000;
-        let rest = self.0 % 10_000;
-        write!(f, "{zloty}.{rest:04}")
+        let whole = self.0 / 10_000;
+        let first = self.0 / 10 / 10 / 10 % 10;
+        let second = self.0 / 10 / 10 % 10;
+        let third = self.0 / 10 % 10;
+        let fourth = self.0 % 10;
+        write!(f, "{whole}.{first}{second}{third}{fourth}")
     }
 }
