@@ -1,4 +1,6 @@
 // Position books: what a book means, a net table, and a journal over memory handed in.
+#![tactic(auto)]
+
 pub mod book;
 pub mod booking;
 pub mod journal;

@@ -1,3 +1,5 @@
 // The lines of a text, each taken into the rows of a draft or booked on a net table.
+#![tactic(auto)]
+
 mod fields;
 pub mod intake;

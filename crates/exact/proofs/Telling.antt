@@ -3,7 +3,7 @@ use Rattle.std.proofs.Common.{◌≡◌, ℕ, zero, suc, ◌+◌, ◌<◌, ◌�
 use Rattle.terms.specs.Limits.{security_count, class_count}
 use Rattle.rules.specs.Sums.{sum_belowℤ}
 use Rattle.rules.specs.Rows.{Rows, Lawful, Every}
-use Rattle.rules.specs.Margin.{exact, bought, sold, value_in, net_value, credits, KSPK, DOLR, DSPAN}
+use Rattle.rules.specs.Margin.{exact, bought, sold, value_in, net_value, KSPK, DOLR, DSPAN}
 use Rattle.rules.proofs.Classes.{abs_minus}
 use Rattle.rules.proofs.Walk.{Below, Agree, credits_agree, every_map}
 use Rattle.sheets.specs.Readings.{rates_in}

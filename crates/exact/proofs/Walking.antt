@@ -8,10 +8,10 @@ use Rattle.terms.specs.Limits.{class_count, whole}
 use Rattle.rules.specs.Rows.{Every}
 use Rattle.rules.specs.Margin.{Rounding, exact, match_of, matched, of_pair, step, leftovers, credits, towards}
 use Rattle.rules.proofs.Parts.{nat_abs_is, matched_is, towards_parts}
-use Rattle.rules.proofs.Walk.{Apart, At, at, in_pair, no_pair, walk_shrinks, every_map, step_first, step_second, step_else}
+use Rattle.rules.proofs.Walk.{At, at, in_pair, no_pair, walk_shrinks, every_map, step_first, step_second, step_else}
 use Rattle.deposits.specs.Records.{Sound}
 use Rattle.exact.specs.declared.records.Left.{Left}
-use Rattle.exact.specs.Sizes.{worths_limit, part_limit}
+use Rattle.exact.specs.Sizes.{worths_limit}
 use Rattle.exact.specs.Classes.{none, left_of, with_credit, part, served, Roomy, Walked}
 
 -- ---- one pair more

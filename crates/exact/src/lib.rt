@@ -1,4 +1,6 @@
 // The exact margin of a portfolio, over any book and any rate sheet: the steps of the deposit with no rounding.
+#![tactic(auto)]
+
 pub mod margin;
 pub(crate) mod records;
 pub(crate) mod sums;

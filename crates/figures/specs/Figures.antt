@@ -41,10 +41,10 @@ three_classes = record {
 }
 
 -- the net of each security, from security 0 on, and 0 past the last
-abbrev pub net_at_lem : List ℤ → ℕ → ℤ
-net_at_lem [] s = pos 0
-net_at_lem (net ∷ nets) zero = net
-net_at_lem (net ∷ nets) (suc s) = net_at_lem nets s
+abbrev pub net_at : List ℤ → ℕ → ℤ
+net_at [] s = pos 0
+net_at (net ∷ nets) zero = net
+net_at (net ∷ nets) (suc s) = net_at nets s
 
 -- nets over a sheet
 pub record Portfolio : Type 0 where
@@ -78,16 +78,16 @@ pub data Figure : Type 0 where
 abbrev pub Holds : Figure → Type 0
 Holds (lawful sheet) = Lawful (rows_of sheet)
 Holds (class_owes p c drr drs dswk kspk dolr) =
-    (DRR rounded (rows_of p.sheet) (net_at_lem p.nets) c ≡ drr)
-    × (DRS rounded (rows_of p.sheet) (net_at_lem p.nets) c ≡ drs)
-    × (DSWK rounded (rows_of p.sheet) (net_at_lem p.nets) c ≡ dswk)
-    × (KSPK rounded (rows_of p.sheet) (net_at_lem p.nets) c ≡ kspk)
-    × (DOLR rounded (rows_of p.sheet) (net_at_lem p.nets) c ≡ dolr)
+    (DRR rounded (rows_of p.sheet) (net_at p.nets) c ≡ drr)
+    × (DRS rounded (rows_of p.sheet) (net_at p.nets) c ≡ drs)
+    × (DSWK rounded (rows_of p.sheet) (net_at p.nets) c ≡ dswk)
+    × (KSPK rounded (rows_of p.sheet) (net_at p.nets) c ≡ kspk)
+    × (DOLR rounded (rows_of p.sheet) (net_at p.nets) c ≡ dolr)
 Holds (owes p dspan classes securities pairs) =
-    (DSPAN rounded (rows_of p.sheet) (net_at_lem p.nets) ≡ dspan)
-    × (classes_held (rows_of p.sheet) (net_at_lem p.nets) ≡ classes)
-    × (securities_held (net_at_lem p.nets) ≡ securities)
-    × (pairs_held (rows_of p.sheet) (net_at_lem p.nets) ≡ pairs)
+    (DSPAN rounded (rows_of p.sheet) (net_at p.nets) ≡ dspan)
+    × (classes_held (rows_of p.sheet) (net_at p.nets) ≡ classes)
+    × (securities_held (net_at p.nets) ≡ securities)
+    × (pairs_held (rows_of p.sheet) (net_at p.nets) ≡ pairs)
 Holds (amount_is q price rate a) = amount q price rate ≡ a
 Holds (values q row kind a v) = position_value q row kind ≡ Some (record { units = a }, record { units = v })
 Holds (too_large q row kind) = position_value q row kind ≡ None

@@ -1,4 +1,6 @@
 // Runs the worked figures through the code, and prints what it tells beside what is expected.
+#![tactic(auto)]
+
 mod example;
 mod strays;
 mod table;

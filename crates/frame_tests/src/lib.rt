@@ -1,4 +1,6 @@
 // Frames on examples: read, written and read back.
+#![tactic(auto)]
+
 #[cfg(test)]
 mod tests {
     use frames::codec::{read, write};

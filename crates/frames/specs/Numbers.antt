@@ -8,7 +8,7 @@ use Rattle.std.proofs.lemmas.Nat.{div_below}
 use Rattle.std.proofs.lemmas.List.{map_push, take-map, get_or-map, take_more_same, take_all, length-take-le, drop-set, drop_more, length-map}
 use Rattle.std.proofs.lemmas.Int.Digits.{number_push, number_more, number_lt}
 use Rattle.std.specs.Int.Digits.{number_from_digits, AllBelowBase}
-use Rattle.std.specs.List.{AllByRecursion as All}
+use Rattle.std.specs.List.{AllByRecursion}
 use Rattle.frames.specs.Hex.{digit_of, value_of, is_digit, are_digits, number_of, digits_of}
 
 -- the value of a digit's code, and the code of a digit's value
@@ -21,7 +21,7 @@ same_code x y h e = grind (arith, nat_tests)
 
 -- every code of the text is a digit, as a fact of each
 abbrev pub Hex : List ℕ → Type 0
-Hex = All (λ c. value_of c < 16)
+Hex = AllByRecursion (λ c. value_of c < 16)
 
 pub hex_from : (text : List ℕ) → are_digits text ≡ true → Hex text
 hex_from text = (Decides-by_and is_digit (λ c. value_of c < 16) are_digits (λ c. Decides-ltb (value_of c) 16) refl (λ _ _. refl) text).0

@@ -1,6 +1,6 @@
 // Frames of every kind are read and written here, once.
 ghost use Rattle.std.specs.Prelude.{◌≡◌, ◌+◌, ◌*◌, ◌<◌, ◌≤◌, true, false, [], ◌∷◌, length, take, drop, MatchResult};
-ghost use Rattle.terms.specs.declared.layer.Layer.TheVariants.{Frame as in_frame};
+ghost use Rattle.terms.specs.declared.layer.Layer.TheVariants.{Frame as InFrame};
 ghost use Rattle.terms.specs.declared.refusal.Refusal.TheVariants.{NotHexadecimal};
 ghost use Rattle.terms.specs.Questions.{answer};
 ghost use Rattle.frames.specs.Choices.{is_choice};
@@ -52,7 +52,7 @@ fn has_choice(fields: &[u8]) -> bool
 
 // Whether digits are the fields of a frame of one kind.
 pub fn check<F: Frame>(fields: &[u8]) -> Result<(), Fault>
-    ensures { result ≡ answer in_frame 0 tt (fields_refusal kind fields.now) }
+    ensures { result ≡ answer InFrame 0 tt (fields_refusal F.kind fields.now) }
 {
     let shape = F::shape();
     if fields.len() != shape.digits {
@@ -67,8 +67,8 @@ pub fn check<F: Frame>(fields: &[u8]) -> Result<(), Fault>
 // Reads the number of each field into the first places of `numbers`.
 fn read_numbers<F: Frame>(fields: &[u8], numbers: &mut Figures)
     requires digits { are_digits fields.now ≡ true }
-    requires size { length fields.now ≡ 2 * bytes kind.widths }
-    ensures { take (length kind.widths) numbers.new ≡ numbers_of kind.widths fields.now }
+    requires size { length fields.now ≡ 2 * bytes F.kind.widths }
+    ensures { take (length F.kind.widths) numbers.new ≡ numbers_of F.kind.widths fields.now }
 {
     let shape = F::shape();
     let mut at = 0;
@@ -81,7 +81,7 @@ fn read_numbers<F: Frame>(fields: &[u8], numbers: &mut Figures)
 
 // The record whose fields these are.
 pub fn read_fields<F: Frame>(fields: &[u8]) -> Result<F::Record, Fault>
-    ensures { Reads (λ x. text_of kind.widths (figures x)) (digits_refusal kind fields.now) fields.now result }
+    ensures { Reads (λ x. text_of F.kind.widths (F.figures x)) (digits_refusal F.kind fields.now) fields.now result }
 {
     if !all_digits(fields) {
         return Err(fault(Refusal::NotHexadecimal));
@@ -98,7 +98,7 @@ pub fn read_fields<F: Frame>(fields: &[u8]) -> Result<F::Record, Fault>
 
 // The record whose frame this line is. A reader of one kind knows no other.
 pub fn read<F: Frame>(line: &[u8]) -> Result<F::Record, Fault>
-    ensures { Reads (λ x. line_of kind (figures x)) (line_refusal (kind ∷ []) line.now) line.now result }
+    ensures { Reads (λ x. line_of F.kind (F.figures x)) (line_refusal (F.kind ∷ []) line.now) line.now result }
 {
     let (kind, fields) = split(line)?;
     if kind != F::shape().kind {
@@ -109,8 +109,8 @@ pub fn read<F: Frame>(line: &[u8]) -> Result<F::Record, Fault>
 
 // Fills `line` with the digits of the fields of `item`.
 fn write_fields<F: Frame>(item: &F::Record, line: &mut [u8])
-    requires { length line.old ≡ 2 * bytes kind.widths }
-    ensures { line.new ≡ text_of kind.widths (figures item.now) }
+    requires { length line.old ≡ 2 * bytes F.kind.widths }
+    ensures { line.new ≡ text_of F.kind.widths (F.figures item.now) }
 {
     let shape = F::shape();
     let figures = F::figures_of(item);
@@ -124,8 +124,8 @@ fn write_fields<F: Frame>(item: &F::Record, line: &mut [u8])
 
 // Fills `line` with the digits of the frame of `item`.
 fn write_line<F: Frame>(item: &F::Record, line: &mut [u8])
-    requires { length line.old ≡ 2 + 2 * bytes kind.widths }
-    ensures { line.new ≡ line_of kind (figures item.now) }
+    requires { length line.old ≡ 2 + 2 * bytes F.kind.widths }
+    ensures { line.new ≡ line_of F.kind (F.figures item.now) }
 {
     write_number(&mut line[0..2], u64::from(F::shape().kind));
     write_fields::<F>(item, &mut line[2..]);
@@ -133,15 +133,15 @@ fn write_line<F: Frame>(item: &F::Record, line: &mut [u8])
 
 // How many digits the frame of `item` has.
 fn line_length<F: Frame>(item: &F::Record) -> usize
-    ensures { result ≡ length (line_of kind (figures item.now)) }
+    ensures { result ≡ length (line_of F.kind (F.figures item.now)) }
 {
     2 + F::shape().digits
 }
 
 // Writes the frame of `item` and a line feed at the front of `memory`, which has room for both.
 fn fill<F: Frame>(item: &F::Record, memory: &mut [u8])
-    requires { length (line_of kind (figures item.now)) < length memory.old }
-    ensures { memory.new ≡ written (line_of kind (figures item.now)) memory.old }
+    requires { length (line_of F.kind (F.figures item.now)) < length memory.old }
+    ensures { memory.new ≡ written (line_of F.kind (F.figures item.now)) memory.old }
 {
     let length = line_length::<F>(item);
     write_line::<F>(item, &mut memory[0..length]);
@@ -150,8 +150,8 @@ fn fill<F: Frame>(item: &F::Record, memory: &mut [u8])
 
 // Writes the frame of `item` and a line feed at the front of `memory`, and tells how many bytes these are.
 pub fn write<F: Frame>(item: &F::Record, memory: &mut [u8]) -> Result<usize, Fault>
-    ensures told { result ≡ written_answer (line_of kind (figures item.now)) memory.old }
-    ensures after { memory.new ≡ written (line_of kind (figures item.now)) memory.old }
+    ensures told { result ≡ written_answer (line_of F.kind (F.figures item.now)) memory.old }
+    ensures after { memory.new ≡ written (line_of F.kind (F.figures item.now)) memory.old }
 {
     let length = line_length::<F>(item);
     if memory.len() <= length {

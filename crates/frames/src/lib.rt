@@ -1,4 +1,5 @@
 // Frames: one line of hexadecimal digits each, read into a record and written from one.
+#![tactic(auto)]
 
 pub mod codec;
 pub mod frame;

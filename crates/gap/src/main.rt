@@ -1,4 +1,6 @@
 // Says how near the deposit of a text of rows and bookings on standard input is to the exact margin.
+#![tactic(auto)]
+
 mod report;
 mod spoken;
 mod taking;

@@ -1,5 +1,5 @@
 -- What a deposit wrote, copied out of the memory, is told right. Assumes nothing.
-use Rattle.std.proofs.Common.{◌≡◌, ℕ, ◌+◌, ◌-◌, ◌<◌, ◌≤◌, Bool, true, false, ◌&&◌, leb, ◌++◌, map, length, get_or, take, drop, ℤ, pos, ◌≤ℤ◌, Some, None, Ok, Err, Option, Result, sym, refl, ap, ◌∙◌, subst, arith}
+use Rattle.std.proofs.Common.{◌≡◌, ℕ, ◌≤◌, Bool, true, false, ◌&&◌, leb, ◌++◌, map, length, take, drop, ℤ, ◌≤ℤ◌, None, Ok, Option, sym, refl, ap, ◌∙◌, subst, arith}
 use mathlib.Core.List as L
 use Rattle.std.proofs.lemmas.List.{get_or-take, length-append, length-drop, length-take-le, take-append-drop}
 use Rattle.std.proofs.lemmas.Bool.{and_parts, leb-true}
@@ -20,8 +20,8 @@ use Rattle.deposits.specs.Told.{none, told_by}
 use Rattle.deposits.specs.Deposits.{deposit_fault, Margin, Deposited, Deposits, Upholds, left_told}
 use Rattle.deposits.proofs.Walking.{told_length}
 use Rattle.histories.specs.Tellings.{padded, telling_of, Tells}
-use Rattle.histories.specs.Demands.{Demands, Right}
-use Rattle.histories.specs.Memories.{Memory, memory_of, told_into}
+use Rattle.histories.specs.Demands.{Right}
+use Rattle.histories.specs.Memories.{memory_of, told_into}
 use Rattle.histories.proofs.Copies.{front}
 
 -- a deposit that is not refused had room

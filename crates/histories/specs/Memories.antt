@@ -1,5 +1,5 @@
 -- What a history leaves in the memory handed in for deposits. Assumes nothing.
-use Rattle.std.specs.Prelude.{ℕ, [], ◌∷◌, ◌++◌, drop, Ok, Err, Result}
+use Rattle.std.specs.Prelude.{[], ◌∷◌, ◌++◌, drop, Ok, Err, Result}
 use mathlib.Core.List as L
 use Rattle.terms.specs.Limits.{class_count}
 use Rattle.terms.specs.declared.fault.Fault.{Fault}

@@ -12,7 +12,7 @@ use crate::telling::Telling;
 use deposits::deposit::deposit;
 use deposits::records::{ClassMargin, Match};
 use lists::list::List;
-use surcharges::cover::Cover;
+use surcharges::cover::{Cover, call_own};
 use terms::fault::Fault;
 use terms::layer::Layer;
 use terms::refusal::Refusal;
@@ -68,7 +68,7 @@ fn take_step<T: Top, U: Cover>(
 {
     match step {
         Step::Book(call) => Entry::Done(top.call(call)),
-        Step::Sheet(own) => Entry::Done(cover.call(own)),
+        Step::Sheet(own) => Entry::Done(call_own(cover, own)),
         Step::Deposit => Entry::Told(tell(top, cover, classes, matches)),
     }
 }
@@ -119,10 +119,10 @@ fn begin<T: Top, U: Cover>(
     log: &mut List<'_, Entry>,
 ) -> (T, U)
     requires { length script.now ≤ length (memory log.old) }
-    ensures history { History T.Top.rules U.Cover.means (Below-as-Sheet.rows sheet) (length classes.old) (length (memory matches.old)) (at_first T.Top.rules (Below-as-Positions.nets book) (Below-as-Book.left book)) script.now (items log.new) (tally (T.Top.tally result.0) (U.Cover.additions result.1)) }
-    ensures start { ((s : ℕ) → Below-as-Positions.nets book s ≡ pos 0) → Blank (at_first T.Top.rules (Below-as-Positions.nets book) (Below-as-Book.left book)) }
+    ensures history { History T.Top.rules U.Cover.means (U.Below.Sheet.rows sheet) (length classes.old) (length (memory matches.old)) (at_first T.Top.rules (T.Below.Positions.nets book) (T.Below.Book.left book)) script.now (items log.new) (tally (T.Top.tally result.0) (U.Cover.additions result.1)) }
+    ensures start { ((s : ℕ) → T.Below.Positions.nets book s ≡ pos 0) → Blank (at_first T.Top.rules (T.Below.Positions.nets book) (T.Below.Book.left book)) }
     ensures nets { T.Positions.nets result.0 ≡ nets_of (tally (T.Top.tally result.0) (U.Cover.additions result.1)) }
-    ensures rows { U.Sheet.rows result.1 ≡ with_additions (U.Cover.additions result.1) (Below-as-Sheet.rows sheet) }
+    ensures rows { U.Sheet.rows result.1 ≡ with_additions (U.Cover.additions result.1) (U.Below.Sheet.rows sheet) }
     ensures written { memory_of classes.new matches.new ≡ written_by (items log.new) (memory_of classes.old matches.old) }
     ensures past { drop (length script.now) (memory log.new) ≡ drop (length script.now) (memory log.old) }
     ensures log { lender log.new ≡ lender log.old }
@@ -148,10 +148,10 @@ pub fn replay<T: Top, U: Cover>(
     log: &mut List<'_, Entry>,
 ) -> Result<(T, U), Unopened<T::Below, U::Below>>
     ensures room { MatchResult result (λ _. length script.now ≤ length (memory log.old)) (λ _. length (memory log.old) < length script.now) }
-    ensures history { MatchResult result (λ p. History T.Top.rules U.Cover.means (Below-as-Sheet.rows sheet) (length classes.old) (length (memory matches.old)) (at_first T.Top.rules (Below-as-Positions.nets book) (Below-as-Book.left book)) script.now (items log.new) (tally (T.Top.tally p.0) (U.Cover.additions p.1))) (λ e. (e.fault ≡ no_such_place) × (e.book ≡ book) × (e.sheet ≡ sheet)) }
-    ensures start { OnOk result (((s : ℕ) → Below-as-Positions.nets book s ≡ pos 0) → Blank (at_first T.Top.rules (Below-as-Positions.nets book) (Below-as-Book.left book))) }
+    ensures history { MatchResult result (λ p. History T.Top.rules U.Cover.means (U.Below.Sheet.rows sheet) (length classes.old) (length (memory matches.old)) (at_first T.Top.rules (T.Below.Positions.nets book) (T.Below.Book.left book)) script.now (items log.new) (tally (T.Top.tally p.0) (U.Cover.additions p.1))) (λ e. (e.fault ≡ no_such_place) × (e.book ≡ book) × (e.sheet ≡ sheet)) }
+    ensures start { OnOk result (((s : ℕ) → T.Below.Positions.nets book s ≡ pos 0) → Blank (at_first T.Top.rules (T.Below.Positions.nets book) (T.Below.Book.left book))) }
     ensures nets { IfOk result (λ p. T.Positions.nets p.0 ≡ nets_of (tally (T.Top.tally p.0) (U.Cover.additions p.1))) }
-    ensures rows { IfOk result (λ p. U.Sheet.rows p.1 ≡ with_additions (U.Cover.additions p.1) (Below-as-Sheet.rows sheet)) }
+    ensures rows { IfOk result (λ p. U.Sheet.rows p.1 ≡ with_additions (U.Cover.additions p.1) (U.Below.Sheet.rows sheet)) }
     ensures written { MatchResult result (λ _. memory_of classes.new matches.new ≡ written_by (items log.new) (memory_of classes.old matches.old)) (λ _. (classes.new ≡ classes.old) × (matches.new ≡ matches.old)) }
     ensures past { MatchResult result (λ _. drop (length script.now) (memory log.new) ≡ drop (length script.now) (memory log.old)) (λ _. log.new ≡ log.old) }
     ensures log { lender log.new ≡ lender log.old }

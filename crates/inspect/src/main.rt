@@ -1,4 +1,6 @@
 // Says in plain words what the frames of a text on standard input are.
+#![tactic(auto)]
+
 mod report;
 mod spoken;
 mod told;

@@ -1,7 +1,8 @@
 -- One record more: the sheet and the nets of the records. Assumes nothing.
-use Rattle.std.proofs.Common.{◌≡◌, ℕ, cond, eqb, List, [], ◌∷◌, ◌++◌, map, Some, None, Option, sym, refl, ap, ◌∙◌, subst, ⊎_elim, lit≤}
+use Rattle.std.proofs.Common.{◌≡◌, ℕ, true, false, cond, eqb, List, [], ◌∷◌, ◌++◌, map, Some, None, Option, sym, refl, ap, ◌∙◌, subst, ⊎_elim, lit≤}
 use Rattle.std.proofs.lemmas.List.{append-nil, flat_map_more, map_push}
-use Rattle.std.proofs.lemmas.Bool.{cases_Bool, eqb-true}
+use Rattle.std.proofs.lemmas.Bool.{cases_Bool, eq-eqb, eqb-true}
+use Rattle.std.proofs.lemmas.Map.{update_same, update_apart}
 use Rattle.std.specs.List.{flat_map}
 use Rattle.std.specs.Map.{update}
 use Rattle.frames.specs.declared.record.BookingRecord.{BookingRecord}
@@ -41,8 +42,8 @@ listed_same own items item none = sym (listed_push own items item ∙ ap (or_els
 -- a row for a number that had none
 put_new : {A : Type 0} (f : ℕ → Option A) (at : ℕ) (row : A) → f at ≡ None → (n : ℕ) → update eqb f at (Some row) n ≡ or_else (f n) (cond (eqb n at) (Some row) None)
 put_new f at row new n = ⊎_elim
-    (λ yes'. ap (λ b. cond b (Some row) (f n)) yes' ∙ sym (ap (λ o. or_else o (cond (eqb n at) (Some row) None)) (ap f (eqb-true n at yes') ∙ new) ∙ ap (λ b. cond b (Some row) None) yes'))
-    (λ no'. ap (λ b. cond b (Some row) (f n)) no' ∙ sym (ap (λ b. or_else (f n) (cond b (Some row) None)) no' ∙ or_else_none (f n)))
+    (λ yes'. update_same eqb f at (Some row) n (eq-eqb at n (sym (eqb-true n at yes'))) ∙ sym (ap (λ o. or_else o (cond (eqb n at) (Some row) None)) (ap f (eqb-true n at yes') ∙ new) ∙ ap (λ b. cond b (Some row) None) yes'))
+    (λ no'. update_apart f at (Some row) n (λ e. let both : true ≡ false = sym (eq-eqb n at e) ∙ no' in absurd cc) ∙ sym (ap (λ b. or_else (f n) (cond b (Some row) None)) no' ∙ or_else_none (f n)))
     (cases_Bool (eqb n at))
 
 pairs_push : (items : List RowRecord) (item : RowRecord) → flat_map as_pair items ++ as_pair item ≡ flat_map as_pair (items ++ item ∷ [])

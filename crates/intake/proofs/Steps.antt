@@ -1,5 +1,5 @@
 -- One line more of a text. Assumes nothing.
-use Rattle.std.proofs.Common.{◌≡◌, ℕ, ◌+◌, List, [], ◌∷◌, None, Result, sym, ap, ◌∙◌}
+use Rattle.std.proofs.Common.{◌≡◌, ℕ, ◌+◌, List, ◌∷◌, None, Result, sym, ap, ◌∙◌}
 use Rattle.entries.specs.Desks.{Desk, line_fault_lem, with_line}
 use Rattle.intake.specs.declared.line_fault.LineFault.{LineFault}
 use Rattle.intake.specs.Reading.{after_lines, or_later}

@@ -1,4 +1,4 @@
-// The call that C makes.
+// The call that C makes, through the crate intake_c.
 ghost use Rattle.intake.specs.Answering.{call_answer, memory_after, told_in_c};
 ghost use Rattle.intake.specs.Yields.{YieldsInC};
 ghost use Rattle.std.specs.Prelude.{◌≡◌};
@@ -6,8 +6,7 @@ ghost use Rattle.std.specs.Prelude.{◌≡◌};
 use crate::answer::answer_text;
 
 // Writes the answer to a text, and returns how many bytes these are, or minus the number of the refusal: -36 or -37.
-#[unsafe(no_mangle)]
-pub extern "C" fn dolzhivar_margin(text: &[u8], answer: &mut [u8]) -> i64
+pub fn dolzhivar_margin(text: &[u8], answer: &mut [u8]) -> i64
     ensures told { result ≡ told_in_c (call_answer text.now answer.old) }
     ensures memory { answer.new ≡ memory_after text.now answer.old }
     ensures yields { YieldsInC text.now answer.old result answer.new }

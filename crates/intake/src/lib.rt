@@ -1,4 +1,6 @@
 // A whole text of rows and bookings to its answer, and the call that C makes.
+#![tactic(auto)]
+
 pub mod answer;
 pub mod export;
 mod line_fault;

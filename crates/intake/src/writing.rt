@@ -15,9 +15,9 @@ use terms::limits::CLASSES;
 
 // Writes the frame of `item` at the front of `memory`, which has room for it, and tells how many bytes these are.
 fn put<F: Frame>(item: &F::Record, memory: &mut [u8]) -> usize
-    requires { size_of kind ≤ length memory.old }
-    ensures fills { Fills (line_of kind (figures item.now) ∷ []) memory.old result memory.new }
-    ensures size { result ≡ size_of kind }
+    requires { size_of F.kind ≤ length memory.old }
+    ensures fills { Fills (line_of F.kind (F.figures item.now) ∷ []) memory.old result memory.new }
+    ensures size { result ≡ size_of F.kind }
 {
     match write::<F>(item, memory) {
         Ok(count) => count,

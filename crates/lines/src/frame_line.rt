@@ -1,7 +1,7 @@
 // A line that is a frame, told by its kind.
 ghost use Rattle.std.specs.Prelude.{◌≡◌};
 ghost use Rattle.terms.specs.Questions.{answer};
-ghost use Rattle.terms.specs.declared.layer.Layer.TheVariants.{Frame as in_frame};
+ghost use Rattle.terms.specs.declared.layer.Layer.TheVariants.{Frame as InFrame};
 ghost use Rattle.frames.specs.Frames.{fields_refusal};
 ghost use Rattle.lines.specs.FrameLines.{Tells, TellsKind};
 
@@ -29,7 +29,7 @@ pub enum FrameLine<'a> {
 
 // The frame, if the fields are those of its kind.
 fn checked<'a, F: Frame>(frame: FrameLine<'a>, fields: &[u8]) -> Result<FrameLine<'a>, Fault>
-    ensures { result ≡ answer in_frame 0 frame.entry (fields_refusal kind fields.now) }
+    ensures { result ≡ answer InFrame 0 frame.entry (fields_refusal F.kind fields.now) }
 {
     check::<F>(fields)?;
     Ok(frame)

@@ -1,2 +1,4 @@
 // A list over memory that the caller hands in.
+#![tactic(auto)]
+
 pub mod list;

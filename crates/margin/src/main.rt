@@ -1,4 +1,6 @@
 // Answers the text of rows and bookings on standard input with the frames of its deposit, on standard output.
+#![tactic(auto)]
+
 use intake::telling::tell_text;
 use std::io;
 use std::io::{Read, Write};

@@ -1,4 +1,6 @@
 // Answers texts that show the answers and the refusals which a text can meet, and prints each answer under its name.
+#![tactic(auto)]
+
 mod cases;
 
 use crate::cases::{CASES, Case};

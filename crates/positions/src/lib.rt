@@ -1,4 +1,6 @@
 // The positions of a portfolio: what each held security is worth, and what its classes sum to.
+#![tactic(auto)]
+
 pub mod portfolio;
 pub mod position;
 pub(crate) mod sums;

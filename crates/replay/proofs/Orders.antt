@@ -1,5 +1,5 @@
 -- One order more.
-use Rattle.std.proofs.Common.{◌≡◌, ℕ, suc, ◌+◌, ◌<◌, List, [], ◌∷◌, ◌++◌, length, get_or, drop, Option, sym, refl, ap, ◌∙◌, append_assoc, add-one, drop-cons}
+use Rattle.std.proofs.Common.{◌≡◌, ℕ, ◌+◌, ◌<◌, List, ◌∷◌, ◌++◌, length, get_or, drop, Option, sym, ap, ◌∙◌, append_assoc, add-one, drop-cons}
 use Rattle.histories.specs.declared.step.Step.{Step}
 use Rattle.replay.specs.declared.order.Order.{Order}
 use Rattle.replay.specs.Scripts.{listed, step_of, steps_of}

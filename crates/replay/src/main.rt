@@ -1,4 +1,6 @@
 // A dealer's day: the calls of a script on standard input, made at desks, and what each gave in plain words and zloty.
+#![tactic(auto)]
+
 mod desks;
 mod order;
 mod script;

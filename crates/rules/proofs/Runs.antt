@@ -1,5 +1,5 @@
 -- Two runs of the walk, in zloty units and exactly: their credits differ by little, since no step raises the sum of the differences. Assumes nothing.
-use Rattle.std.proofs.Common.{◌≡◌, ℕ, ◌+◌, ◌-◌, ◌*◌, ◌/◌, ◌^◌, ◌<◌, ◌≤◌, Bool, true, false, cond, ◌&&◌, ◌⊎◌, List, [], ◌∷◌, ℤ, refl, ⊎_elim, le_trans, mul-le-mul_right, mul-le-mul_left, arith}
+use Rattle.std.proofs.Common.{◌≡◌, ℕ, ◌+◌, ◌-◌, ◌*◌, ◌/◌, ◌^◌, ◌<◌, ◌≤◌, Bool, true, false, cond, ◌&&◌, List, [], ◌∷◌, ℤ, refl, ⊎_elim, le_trans, mul-le-mul_right, mul-le-mul_left, arith}
 use borrow.Author.Differences.{up, down}
 use Rattle.std.proofs.lemmas.Bool.{and_cases, cases_Bool}
 use Rattle.rules.specs.Sums.{sum_below}

@@ -1,5 +1,5 @@
 -- The test of a table passes exactly where its rows obey the laws. Assumes nothing.
-use Rattle.std.proofs.Common.{◌≡◌, ℕ, zero, suc, ◌<◌, ◌≤◌, Bool, true, false, eqb, ◌≢◌, List, [], ◌∷◌, length, Some, None, Option, refl, subst}
+use Rattle.std.proofs.Common.{◌≡◌, ℕ, zero, suc, ◌<◌, ◌≤◌, Bool, true, eqb, List, [], ◌∷◌, length, Some, None, Option, refl, subst}
 use Rattle.std.proofs.lemmas.Bool.{and_parts, and_from, ltb-true, lt-ltb, leb-true, le-leb, eqb-true, eq-eqb, ne_eqb, eqb-false, not-true, not_from_false, false≢true}
 use Rattle.terms.specs.declared.choice.ClassKind.{ClassKind}
 use Rattle.terms.specs.declared.choice.ClassKind.TheVariants.{Liquidity, Duration}

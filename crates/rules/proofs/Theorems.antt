@@ -78,33 +78,33 @@ dep_raised a b None = refl
 part_grows : (y z amount : ℕ) → y ≤ z → rounded.part y amount ≤ rounded.part z amount
 part_grows y z amount l = omega (arith, mul-le-mul_right amount l)
 
-DRRRaised : (rows : Rows) → Lawful rows → (nets : ℕ → ℤ) (a b : ℕ → ℕ) (c : ℕ) → DRR rounded rows nets c ≤ DRR rounded (raised a b rows) nets c
-DRRRaised rows h nets a b c =
+drr_raised : (rows : Rows) → Lawful rows → (nets : ℕ → ℤ) (a b : ℕ → ℕ) (c : ℕ) → DRR rounded rows nets c ≤ DRR rounded (raised a b rows) nets c
+drr_raised rows h nets a b c =
     let z : ℕ = figure (λ r. r.y) (raised_row_lem (a c) (b c) (rows.classes c)) in
     let same : DRR rounded (raised a b rows) nets c ≡ rounded.part z (nat_abs (net_value rounded rows nets c)) =
     ap (λ (f : ℕ → ℤ). rounded.part z (nat_abs (f c))) (net_raised rounded a b rows nets) in
     rw same (part_grows (y_of rows c) z (nat_abs (net_value rounded rows nets c)) (y_raised c (a c) (b c) (rows.classes c) (h.of_classes c)))
 
-DRSRaised : (rows : Rows) → Lawful rows → (nets : ℕ → ℤ) (a b : ℕ → ℕ) (c : ℕ) → DRS rounded rows nets c ≤ DRS rounded (raised a b rows) nets c
-DRSRaised rows h nets a b c =
+drs_raised : (rows : Rows) → Lawful rows → (nets : ℕ → ℤ) (a b : ℕ → ℕ) (c : ℕ) → DRS rounded rows nets c ≤ DRS rounded (raised a b rows) nets c
+drs_raised rows h nets a b c =
     simp (value_raised rounded a b rows)
     (part_grows (figure (λ r. r.x) (rows.classes c)) (figure (λ r. r.x) (raised_row_lem (a c) (b c) (rows.classes c))) (bought rounded rows nets c + sold rounded rows nets c)
     (x_raised c (a c) (b c) (rows.classes c) (h.of_classes c)))
 
-DSWKRaised : (rows : Rows) (nets : ℕ → ℤ) (a b : ℕ → ℕ) (c : ℕ) → DSWK rounded rows nets c ≡ DSWK rounded (raised a b rows) nets c
-DSWKRaised rows nets a b c =
+dswk_raised : (rows : Rows) (nets : ℕ → ℤ) (a b : ℕ → ℕ) (c : ℕ) → DSWK rounded rows nets c ≡ DSWK rounded (raised a b rows) nets c
+dswk_raised rows nets a b c =
     simp (value_raised rounded a b rows)
     (ap (λ (d : ℕ). rounded.part d (min (bought rounded rows nets c) (sold rounded rows nets c))) (dep_raised (a c) (b c) (rows.classes c)))
 
-KSPKRaised : (rows : Rows) (nets : ℕ → ℤ) (a b : ℕ → ℕ) (c : ℕ) → KSPK rounded (raised a b rows) nets c ≡ KSPK rounded rows nets c
-KSPKRaised rows nets a b c = ap (λ (f : ℕ → ℤ). credits rounded f rows.pairs c) (net_raised rounded a b rows nets)
+kspk_raised : (rows : Rows) (nets : ℕ → ℤ) (a b : ℕ → ℕ) (c : ℕ) → KSPK rounded (raised a b rows) nets c ≡ KSPK rounded rows nets c
+kspk_raised rows nets a b c = ap (λ (f : ℕ → ℤ). credits rounded f rows.pairs c) (net_raised rounded a b rows nets)
 
 minus_grows : (p q r s t u k l : ℕ) → p ≤ s → q ≤ t → r ≡ u → l ≡ k → (pos (p + q + r) -ℤ pos k) ≤ℤ (pos (s + t + u) -ℤ pos l)
 minus_grows p q r s t u k l h i e g = omega (arith, ints)
 
 pub monotone : Monotone
 monotone rows h nets a b c =
-    minus_grows _ _ _ _ _ _ _ _ (DRRRaised rows h nets a b c) (DRSRaised rows h nets a b c) (DSWKRaised rows nets a b c) (KSPKRaised rows nets a b c)
+    minus_grows _ _ _ _ _ _ _ _ (drr_raised rows h nets a b c) (drs_raised rows h nets a b c) (dswk_raised rows nets a b c) (kspk_raised rows nets a b c)
 
 -- ---- a surcharge keeps the laws
 

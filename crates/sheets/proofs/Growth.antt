@@ -40,10 +40,10 @@ same_classes classes = record { has = λ P c h. h; figures = λ f c. omega arith
 
 one_more : (classes : ℕ → Option ClassRow) (class : ℕ) (row : ClassRow) → classes class ≡ None → Grows classes (update eqb classes class (Some row))
 one_more classes class row new = record {
-  has = λ P c h. cond_both (eqb c class) (Some row) (classes c) (Has P)
-      (λ e. let none : Has P None = subst (Has P) new (subst (λ (n : ℕ). Has P (classes n)) (eqb-true c class e) h) in absurd none) (λ e. h);
-  figures = λ f c. cond_both (eqb c class) (Some row) (classes c) (λ o. figure f (classes c) ≤ figure f o)
-      (λ e. let none : figure f (classes c) ≡ 0 = ap (λ n. figure f (classes n)) (eqb-true c class e) ∙ ap (figure f) new in omega arith) (λ e. omega arith);
+  has = λ P c h. cond_both (eqb class c) (Some row) (classes c) (Has P)
+      (λ e. let none : Has P None = subst (Has P) new (subst (λ (n : ℕ). Has P (classes n)) (sym (eqb-true class c e)) h) in absurd none) (λ e. h);
+  figures = λ f c. cond_both (eqb class c) (Some row) (classes c) (λ o. figure f (classes c) ≤ figure f o)
+      (λ e. let none : figure f (classes c) ≡ 0 = ap (λ n. figure f (classes n)) (sym (eqb-true class c e)) ∙ ap (figure f) new in omega arith) (λ e. omega arith);
 }
 
 module _ (before after : Rows) (grows : Grows before.classes after.classes) where
@@ -82,8 +82,8 @@ class_keeps rows l class row e =
     let more : Rows = with_class rows class row in
     let grows = one_more rows.classes class row q.new in
     record {
-      of_classes = λ c. cond_both (eqb c class) (Some row) (rows.classes c) (Present (LawfulClass c))
-          (λ t. subst (λ n. LawfulClass n row) (sym (eqb-true c class t)) (class_passes class row (and_from _ _ (lt-ltb class class_count q.number) q.figures))) (λ t. l.of_classes c);
+      of_classes = λ c. cond_both (eqb class c) (Some row) (rows.classes c) (Present (LawfulClass c))
+          (λ t. subst (λ n. LawfulClass n row) (eqb-true class c t) (class_passes class row (and_from _ _ (lt-ltb class class_count q.number) q.figures))) (λ t. l.of_classes c);
       of_securities = λ s. securities_kept rows more grows (rows.securities s) s (l.of_securities s);
       of_pairs = pairs_kept rows more grows rows.pairs l.of_pairs;
       few_pairs = l.few_pairs;
@@ -96,8 +96,8 @@ security_keeps rows l security row e =
     let grows = same_classes rows.classes in
     record {
       of_classes = l.of_classes;
-      of_securities = λ s. cond_both (eqb s security) (Some row) (rows.securities s) (Present (LawfulSecurity more s))
-          (λ t. subst (λ n. LawfulSecurity more n row) (sym (eqb-true s security t)) (security_passes more security row (and_from _ _ (lt-ltb security security_count q.number) q.figures)))
+      of_securities = λ s. cond_both (eqb security s) (Some row) (rows.securities s) (Present (LawfulSecurity more s))
+          (λ t. subst (λ n. LawfulSecurity more n row) (eqb-true security s t) (security_passes more security row (and_from _ _ (lt-ltb security security_count q.number) q.figures)))
           (λ t. securities_kept rows more grows (rows.securities s) s (l.of_securities s));
       of_pairs = pairs_kept rows more grows rows.pairs l.of_pairs;
       few_pairs = l.few_pairs;

@@ -2,7 +2,8 @@
 use Rattle.std.proofs.Common.{◌≡◌, ℕ, zero, suc, ◌+◌, ◌<◌, ◌≤◌, eqb, List, [], ◌∷◌, length, get_or, take, set, replicate, Some, None, Option, sym, refl, ap, ◌∙◌, ⊎_elim, arith}
 use Rattle.std.proofs.lemmas.List.{get_or_past, get_or-set_same, get_or-set_other, get_or-take, length-take-le, take_more_set}
 use Rattle.std.proofs.lemmas.Option.{slice_get-get_or, slice_get_past}
-use Rattle.std.proofs.lemmas.Bool.{cases_eq, cond-true, cond-false, eq-eqb, ne_eqb}
+use Rattle.std.proofs.lemmas.Bool.{cases_eq, cond-true, eq-eqb}
+use Rattle.std.proofs.lemmas.Map.{update_apart}
 use Rattle.std.specs.List.{slice_get}
 use Rattle.std.specs.Map.{update}
 use Rattle.rules.specs.declared.rows.ClassRow.{ClassRow}
@@ -23,8 +24,8 @@ row_put : {A : Type 0} (rows : List (Option A)) (i : ℕ) (o : Option A) → i <
 row_put rows i o h n =
     sym (row_is (set rows i o) n)
     ∙ ⊎_elim
-    (λ e. ap (λ m. get_or (set rows i o) m None) e ∙ get_or-set_same rows i o None h ∙ sym (cond-true (eqb n i) o (row_at rows n) (eq-eqb n i e)))
-    (λ ne. get_or-set_other rows i n o None ne ∙ row_is rows n ∙ sym (cond-false (eqb n i) o (row_at rows n) (ne_eqb n i ne)))
+    (λ e. ap (λ m. get_or (set rows i o) m None) e ∙ get_or-set_same rows i o None h ∙ sym (cond-true (eqb i n) o (row_at rows n) (eq-eqb i n (sym e))))
+    (λ ne. get_or-set_other rows i n o None ne ∙ row_is rows n ∙ sym (update_apart (row_at rows) i o n ne))
     (cases_eq n i)
 
 row_none : {A : Type 0} (count n : ℕ) → row_at {A = A} (replicate count None) n ≡ None

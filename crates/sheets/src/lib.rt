@@ -1,4 +1,6 @@
 // Rate sheets: what a sheet means, drafts that take rows, and sheets in force that are read.
+#![tactic(auto)]
+
 pub mod draft;
 pub mod duration_rates;
 pub mod rate_sheet;

@@ -51,7 +51,10 @@ impl<S: Sheet> Cover for Plain<S> {
         Plain { sheet: below }
     }
 
-    fn call(&mut self, own: &NoSetting) -> Result<(), Fault> {
-        match *own {}
+    fn call(&mut self, own: Option<&NoSetting>) -> Result<(), Fault> {
+        match own {
+            Some(own) => match *own {},
+            None => Ok(()),
+        }
     }
 }

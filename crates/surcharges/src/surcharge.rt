@@ -82,7 +82,10 @@ impl<S: Sheet> Cover for Surcharge<S> {
         Surcharge::open(below)
     }
 
-    fn call(&mut self, own: &Setting) -> Result<(), Fault> {
-        self.set(own.class, own.y, own.x)
+    fn call(&mut self, own: Option<&Setting>) -> Result<(), Fault> {
+        match own {
+            Some(own) => self.set(own.class, own.y, own.x),
+            None => Ok(()),
+        }
     }
 }

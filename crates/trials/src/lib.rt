@@ -1,2 +1,4 @@
 // Trial layers above any book.
+#![tactic(auto)]
+
 pub mod trial;

@@ -1,3 +1,5 @@
 // Plain words and human units, for what programs print.
+#![tactic(auto)]
+
 pub mod refusals;
 pub mod units;

@@ -11,7 +11,6 @@ use Rattle.deposits.specs.declared.records.Match.{Match}
 use Rattle.deposits.specs.Told.{none, told_by}
 use Rattle.deposits.specs.Records.{closed}
 use Rattle.deposits.proofs.Telling.{fresh, left_small, told_is, after, after_walk, owing_after, dolr_small, margins, span_is, classes_are, pairs_are, matched_is, matches_told}
-use Rattle.deposits.proofs.deposit.settle.Given as given
 use Rattle.deposits.proofs.deposit.settle.Goals as goal
 
 pub walk-requires : goal.walk-requires
@@ -19,46 +18,46 @@ walk-requires g c =
     let rows = g.S.Sheet.rows c.args.sheet.now in
     let nets = g.P.Positions.nets c.args.book.now in
     let lawful = g.S.Sheet.lawful c.args.sheet.now in
-    let all = positions_of c.in-ok-portfolio.portfolio in
-    let h = c.in-ok-portfolio.ensures in
-    let cs = c.open-classes.new.classes in
+    let all = positions_of c.in_ok-portfolio.portfolio in
+    let h = c.in_ok-portfolio.ensures in
+    let cs = c.open_classes.new.classes in
     record {
       places = omega (arith, c.requires.places);
       room = c.requires.room;
-      fresh = fresh rows lawful nets all h.0 h.1 cs c.open-classes.ensures.opened;
-      small = left_small rows lawful nets all h.0 h.1 cs c.open-classes.ensures.opened;
+      fresh = fresh rows lawful nets all h.0 h.1 cs c.open_classes.ensures.opened;
+      small = left_small rows lawful nets all h.0 h.1 cs c.open_classes.ensures.opened;
     }
 
-pub close-classes-requires : goal.close-classes-requires
-close-classes-requires g c =
+pub close_classes-requires : goal.close_classes-requires
+close_classes-requires g c =
     let rows = g.S.Sheet.rows c.args.sheet.now in
     let nets = g.P.Positions.nets c.args.book.now in
     let lawful = g.S.Sheet.lawful c.args.sheet.now in
-    let all = positions_of c.in-ok-portfolio.portfolio in
-    let h = c.in-ok-portfolio.ensures in
-    let cs = c.open-classes.new.classes in
-    let o = c.open-classes.ensures.opened in
+    let all = positions_of c.in_ok-portfolio.portfolio in
+    let h = c.in_ok-portfolio.ensures in
+    let cs = c.open_classes.new.classes in
+    let o = c.open_classes.ensures.opened in
     let ws = c.walk.new.classes in
     record {
       room = omega (arith, c.requires.places);
       owing = owing_after rows lawful nets all h.0 h.1 cs o ws (after_walk rows lawful nets all h.0 h.1 cs o ws c.walk.ensures.walked);
     }
 
-pub sum-up-requires : goal.sum-up-requires
-sum-up-requires g c =
+pub sum_up-requires : goal.sum_up-requires
+sum_up-requires g c =
     let rows = g.S.Sheet.rows c.args.sheet.now in
     let nets = g.P.Positions.nets c.args.book.now in
     let lawful = g.S.Sheet.lawful c.args.sheet.now in
-    let all = positions_of c.in-ok-portfolio.portfolio in
-    let h = c.in-ok-portfolio.ensures in
-    let cs = c.open-classes.new.classes in
-    let o = c.open-classes.ensures.opened in
+    let all = positions_of c.in_ok-portfolio.portfolio in
+    let h = c.in_ok-portfolio.ensures in
+    let cs = c.open_classes.new.classes in
+    let o = c.open_classes.ensures.opened in
     let ws = c.walk.new.classes in
     let w = after_walk rows lawful nets all h.0 h.1 cs o ws c.walk.ensures.walked in
-    let ds = c.close-classes.new.classes in
+    let ds = c.close_classes.new.classes in
     record {
       room = omega (arith, c.requires.places);
-      small = dolr_small rows lawful nets all h.0 h.1 cs o ds (λ k l. c.close-classes.ensures.closed k l ∙ ap closed (w k l));
+      small = dolr_small rows lawful nets all h.0 h.1 cs o ds (λ k l. c.close_classes.ensures.closed k l ∙ ap closed (w k l));
     }
 
 pub returns : goal.returns
@@ -66,17 +65,17 @@ returns g c =
     let rows = g.S.Sheet.rows c.args.sheet.now in
     let nets = g.P.Positions.nets c.args.book.now in
     let lawful = g.S.Sheet.lawful c.args.sheet.now in
-    let all = positions_of c.in-ok-portfolio.portfolio in
-    let h = c.in-ok-portfolio.ensures in
-    let cs = c.open-classes.new.classes in
-    let o = c.open-classes.ensures.opened in
+    let all = positions_of c.in_ok-portfolio.portfolio in
+    let h = c.in_ok-portfolio.ensures in
+    let cs = c.open_classes.new.classes in
+    let o = c.open_classes.ensures.opened in
     let ws = c.walk.new.classes in
     let w = after_walk rows lawful nets all h.0 h.1 cs o ws c.walk.ensures.walked in
-    let ds = c.close-classes.new.classes in
-    let e : (k : ℕ) → k < class_count → get_or ds k none ≡ closed (after rows lawful nets all h.0 h.1 cs o k) = λ k l. c.close-classes.ensures.closed k l ∙ ap closed (w k l) in
+    let ds = c.close_classes.new.classes in
+    let e : (k : ℕ) → k < class_count → get_or ds k none ≡ closed (after rows lawful nets all h.0 h.1 cs o k) = λ k l. c.close_classes.ensures.closed k l ∙ ap closed (w k l) in
     let told = told_is rows lawful nets all h.0 h.1 cs o in
     let m = margins rows lawful nets all h.0 h.1 cs o ds e in
-    let span : pos c.sum-up.result.dspan.grosz ≡ DSPAN rounded rows nets = span_is rows lawful nets all h.0 h.1 cs o ds e c.sum-up.result.dspan.grosz c.sum-up.ensures.dspan in
+    let span : pos c.sum_up.result.dspan.grosz ≡ DSPAN rounded rows nets = span_is rows lawful nets all h.0 h.1 cs o ds e c.sum_up.result.dspan.grosz c.sum_up.ensures.dspan in
     let list : items c.walk.new.matches ≡ told_by (net_value rounded rows nets) rows.pairs = c.walk.ensures.items ∙ told in
     record {
       lender = c.walk.ensures.lender;
@@ -84,14 +83,14 @@ returns g c =
         h.0,
         record {
           classes = m;
-          past = c.close-classes.ensures.past ∙ c.walk.ensures.past ∙ c.open-classes.ensures.past;
+          past = c.close_classes.ensures.past ∙ c.walk.ensures.past ∙ c.open_classes.ensures.past;
           items = list;
           memory = c.walk.ensures.memory ∙ ap (λ l. l ++ drop (length rows.pairs) (memory c.args.matches.now)) told;
           summary = record {
             dspan = span;
-            classes = classes_are rows lawful nets all h.0 h.1 cs o ds e c.sum-up.result.classes c.sum-up.ensures.classes;
-            securities = c.sum-up.ensures.securities ∙ total_agrees rows nets all h.1 h.0;
-            pairs = pairs_are rows lawful nets all h.0 h.1 cs o ds e c.sum-up.result.pairs c.sum-up.ensures.pairs;
+            classes = classes_are rows lawful nets all h.0 h.1 cs o ds e c.sum_up.result.classes c.sum_up.ensures.classes;
+            securities = c.sum_up.ensures.securities ∙ total_agrees rows nets all h.1 h.0;
+            pairs = pairs_are rows lawful nets all h.0 h.1 cs o ds e c.sum_up.result.pairs c.sum_up.ensures.pairs;
           };
         },
       );

@@ -13,6 +13,6 @@ loop-class-preserved g c =
     let i = c.loop-class.class in
     let cs = c.loop-class.classes in
     let l : i < length cs = omega (arith, c.requires) in (
-      (λ k b. ap (λ w. get_or (set cs i w) k none) c.open-class.ensures ∙ fill_by_more (opened rows all) cs i none l c.loop-class.invariant.0 k b),
-      drop-set-lt class_count cs i c.open-class.result c.loop-class-test.true ∙ c.loop-class.invariant.1,
+      (λ k b. ap (λ w. get_or (set cs i w) k none) c.open_class.ensures ∙ fill_by_more (opened rows all) cs i none l c.loop-class.invariant.0 k b),
+      drop-set-lt class_count cs i c.open_class.result c.loop-class-test.true ∙ c.loop-class.invariant.1,
     )

@@ -20,26 +20,26 @@ sound g c =
 within : (g : given.Over) (c : In-Some g) → c.loop-pair.place < length (g.S.Sheet.rows c.args.sheet.now).pairs
 within g c = item_within (g.S.Sheet.rows c.args.sheet.now).pairs c.loop-pair.place c.in-Some.pair (item g c)
 
-pub is-held-requires : goal.is-held-requires
-is-held-requires g c =
-    let s = sound g (goal.at.is-held-requires g c).In-Some in record { first = omega (arith, c.requires, s.one); second = omega (arith, c.requires, s.other) }
+pub is_held-requires : goal.is_held-requires
+is_held-requires g c =
+    let s = sound g (goal.at.is_held-requires g c).In-Some in record { first = omega (arith, c.requires, s.one); second = omega (arith, c.requires, s.other) }
 
 -- the test of this turn
 test : (g : given.Over) (c : In-Some g) → PairRow → Bool
 test g c = both_flagged c.args.classes.now
 
-pub overflow-add-count : goal.overflow-add-count
+pub overflow_add-count : goal.overflow_add-count
 unfolding test
-overflow-add-count g c =
-    let d = (goal.at.overflow-add-count g c).In-Some in
+overflow_add-count g c =
+    let d = (goal.at.overflow_add-count g c).In-Some in
     let ps = (g.S.Sheet.rows c.args.sheet.now).pairs in
     let i = c.loop-pair.place in
     record {
       fits = omega (
         arith,
         c.loop-pair.invariant.1,
-        c.one-if-count.ensures,
-        one_within c.is-held.result,
+        c.one_if-count.ensures,
+        one_within c.is_held.result,
         count_length (test g d) (take i ps),
         length-take-le i ps c.loop-pair.invariant.0,
         within g d,
@@ -57,7 +57,7 @@ loop-pair-preserved g c =
     let ps = (g.S.Sheet.rows c.args.sheet.now).pairs in
     let i = c.loop-pair.place in
     let p = c.in-Some.pair in
-    let one : c.one-if-count.result ≡ cond (test g d p) 1 0 = c.one-if-count.ensures ∙ ap (λ (t : Bool). cond {A = ℕ} t 1 0) c.is-held.ensures in
+    let one : c.one_if-count.result ≡ cond (test g d p) 1 0 = c.one_if-count.ensures ∙ ap (λ (t : Bool). cond {A = ℕ} t 1 0) c.is_held.ensures in
     let more : count_pairs (test g d) (take (i + 1) ps) ≡ count_pairs (test g d) (take i ps) + cond (test g d p) 1 0 =
     ap (count_pairs (test g d)) (take_next ps i p (item g d)) ∙ count_push (test g d) (take i ps) p in
     (omega (arith, within g d), omega (arith, c.loop-pair.invariant.1, one, more))
@@ -66,5 +66,5 @@ pub returns : goal.returns
 returns g c =
     let ps = (g.S.Sheet.rows c.args.sheet.now).pairs in
     let i = c.loop-pair.place in
-    let past : length ps ≤ i = item_past ps i (sym c.pair.ensures ∙ c.in-default.is) in
+    let past : length ps ≤ i = item_past ps i (sym c.pair.ensures ∙ c.in_default.is) in
     c.loop-pair.invariant.1 ∙ ap (count_pairs (both_flagged c.args.classes.now)) (take_all i ps past)

@@ -22,9 +22,9 @@ sound g c =
 within : (g : given.Over) (c : In-Some g) → c.loop-pair.place < length (g.S.Sheet.rows c.args.sheet.now).pairs
 within g c = item_within (g.S.Sheet.rows c.args.sheet.now).pairs c.loop-pair.place c.in-Some.pair (item g c)
 
-pub serve-and-tell-requires : goal.serve-and-tell-requires
-serve-and-tell-requires g c =
-    let d = (goal.at.serve-and-tell-requires g c).In-Some in
+pub serve_and_tell-requires : goal.serve_and_tell-requires
+serve_and_tell-requires g c =
+    let d = (goal.at.serve_and_tell-requires g c).In-Some in
     let rows = g.S.Sheet.rows c.args.sheet.now in
     let lawful = g.S.Sheet.lawful c.args.sheet.now in
     let i = c.loop-pair.place in
@@ -69,7 +69,7 @@ loop-pair-preserved g c =
     let f = left_of cs in
     let mem = memory c.args.matches.now in
     let inv = c.loop-pair.invariant in
-    let ws = c.serve-and-tell.new.classes in
+    let ws = c.serve_and_tell.new.classes in
     let x = match_record p (part p ds) in
     let l : i < length ps = within g d in
     let more : take (i + 1) ps ≡ take i ps ++ p ∷ [] = take_next ps i p (item g d) in
@@ -79,11 +79,11 @@ loop-pair-preserved g c =
     let room : i < length mem = omega (arith, l, lawful.few_pairs, c.requires.room) in (
       omega (arith, l),
       subst (λ (qs : List PairRow). Reached cs qs (ws)) (sym more)
-          (reached_more cs (take i ps) ds inv.1 p (ws) (sound g d) (omega (arith, c.requires.places)) c.serve-and-tell.ensures.classes),
-      served_past p ds (ws) (sound g d) c.serve-and-tell.ensures.classes ∙ inv.2,
-      c.serve-and-tell.ensures.lender ∙ inv.3,
-      c.serve-and-tell.ensures.told.items ∙ ap (λ xs. xs ++ x ∷ []) inv.4 ∙ list,
-      c.serve-and-tell.ensures.told.memory ∙ ap (λ n. set (memory c.loop-pair.matches) n x) count ∙ ap (λ n. set n i x) inv.5
+          (reached_more cs (take i ps) ds inv.1 p (ws) (sound g d) (omega (arith, c.requires.places)) c.serve_and_tell.ensures.classes),
+      served_past p ds (ws) (sound g d) c.serve_and_tell.ensures.classes ∙ inv.2,
+      c.serve_and_tell.ensures.lender ∙ inv.3,
+      c.serve_and_tell.ensures.told.items ∙ ap (λ xs. xs ++ x ∷ []) inv.4 ∙ list,
+      c.serve_and_tell.ensures.told.memory ∙ ap (λ n. set (memory c.loop-pair.matches) n x) count ∙ ap (λ n. set n i x) inv.5
           ∙ front_more (told_by f (take i ps)) mem i x (taken_count f ps i inv.0) room ∙ ap (λ n. n ++ drop (i + 1) mem) list,
     )
 
@@ -96,7 +96,7 @@ returns g c =
     let cs = c.args.classes.now in
     let f = left_of cs in
     let mem = memory c.args.matches.now in
-    let past : length ps ≤ i = item_past ps i (sym c.pair.ensures ∙ c.in-default.is) in
+    let past : length ps ≤ i = item_past ps i (sym c.pair.ensures ∙ c.in_default.is) in
     let all : take i ps ≡ ps = take_all i ps past in
     let end : i ≡ length ps = omega (arith, inv.0) in
     record {

@@ -2,8 +2,8 @@ use Rattle.std.proofs.Common.{refl}
 use Rattle.entries.proofs.Moving.{never_refused, security_adds}
 use Rattle.entries.proofs.fields.add_security.Goals as goal
 
-pub returns-in-err-item : goal.returns-in-err-item
-returns-in-err-item c = never_refused _ _ c.in-err-item.ensures.decided c.requires
+pub returns-in_err-item : goal.returns-in_err-item
+returns-in_err-item c = never_refused _ _ c.in_err-item.ensures.decided c.requires
 
 pub returns : goal.returns
-returns c = security_adds _ _ _ _ c.in-ok-item.item (c.in-ok-item.ensures.only _ refl) _ _ c.from.ensures c.from-2.ensures c.add-security.ensures
+returns c = security_adds _ _ _ _ c.in_ok-item.item (c.in_ok-item.ensures.only _ refl) _ _ c.from.ensures c.from-2.ensures c.add_security.ensures

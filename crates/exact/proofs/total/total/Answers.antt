@@ -1,4 +1,4 @@
-use Rattle.std.proofs.Common.{◌≡◌, ℕ, ◌+◌, ◌*◌, ◌<◌, ◌≤◌, ℤ, ◌+ℤ◌, nat_abs, sym, ap, ◌∙◌, arith}
+use Rattle.std.proofs.Common.{◌≡◌, ℕ, ◌+◌, ℤ, ◌+ℤ◌, sym, ap, ◌∙◌, arith}
 use borrow.Author.Differences.{ints}
 use Rattle.rules.specs.Sums.{sum_belowℤ}
 use Rattle.rules.proofs.Sums.{sumℤ_more, sumℤ_none}
@@ -22,8 +22,8 @@ more g c =
     let f : ℕ → ℤ = owed_in (g.S.Sheet.rows c.args.sheet.now) c.args.sums.now c.args.lefts.now in
     sumℤ_more c.loop-class.class f ∙ ap (λ (z : ℤ). sum_belowℤ c.loop-class.class f +ℤ z) (sym c.owed-total.ensures.owed)
 
-pub overflow-add-total : goal.overflow-add-total
-overflow-add-total g c = omega (arith, ints, c.loop-class.invariant.1, c.owed-total.ensures.small)
+pub overflow_add-total : goal.overflow_add-total
+overflow_add-total g c = omega (arith, ints, c.loop-class.invariant.1, c.owed-total.ensures.small)
 
 pub loop-class-preserved : goal.loop-class-preserved
 loop-class-preserved g c = (

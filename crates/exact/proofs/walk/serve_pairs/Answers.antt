@@ -56,5 +56,5 @@ pub returns : goal.returns
 returns g c =
     let ps = (g.S.Sheet.rows c.args.sheet.now).pairs in
     let i = c.loop-pair.place in
-    let past : length ps ≤ i = item_past ps i (sym c.pair.ensures ∙ c.in-default.is) in
+    let past : length ps ≤ i = item_past ps i (sym c.pair.ensures ∙ c.in_default.is) in
     subst (λ (qs : List PairRow). Walked (left_of c.args.lefts.now) qs c.loop-pair.lefts) (take_all i ps past) c.loop-pair.invariant.1

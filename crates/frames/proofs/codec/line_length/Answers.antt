@@ -3,8 +3,8 @@ use Rattle.frames.proofs.Sound.{sound}
 use Rattle.frames.specs.Texts.{length_line}
 use Rattle.frames.proofs.codec.line_length.Goals as goal
 
-pub overflow-add-result : goal.overflow-add-result
-overflow-add-result g c = let ok = sound _ g.met.F.Frame.listed in search rules
+pub overflow_add-result : goal.overflow_add-result
+overflow_add-result g c = let ok = sound _ g.met.F.Frame.listed in search rules
 
 pub returns : goal.returns
 returns g c =

@@ -10,15 +10,15 @@ use Rattle.frames.proofs.Reading.{line_refused, line_reads}
 use Rattle.frames.proofs.Sound.{sound}
 use Rattle.frames.proofs.codec.read.Goals as goal
 
-pub returns-in-err-kind : goal.returns-in-err-kind
-returns-in-err-kind g c =
+pub returns-in_err-kind : goal.returns-in_err-kind
+returns-in_err-kind g c =
     let frame = g.F.Frame in
     let laws = g.met.F.Frame in
     let line = c.args.line.now in
     let kinds = frame.kind ∷ [] in
     let known = ap (λ b. cond b (Some frame.kind) None) (eq-eqb frame.kind.byte frame.kind.byte refl) in
-    let exit = err_from_is_err_and c.from-residual.result c.from-residual.ensures.1 in
-    let told = c.in-err-kind.ensures in
+    let exit = err_from_is_err_and c.from_residual.result c.from_residual.ensures.1 in
+    let told = c.in_err-kind.ensures in
     line_refused frame.kind (sound _ laws.listed) frame.figures laws.carried laws.chosen laws.told laws.made kinds known line NotHexadecimal _ (exit.1 ∙ ap Err (exit.2 ∙ told.1))
     (ap (λ b. ask b NotHexadecimal (kind_refusal (find_kind kinds (number_of (take 2 line))) (drop 2 line))) told.0)
 
@@ -29,6 +29,6 @@ returns g c =
     let line = c.args.line.now in
     let kinds = frame.kind ∷ [] in
     let known = ap (λ b. cond b (Some frame.kind) None) (eq-eqb frame.kind.byte frame.kind.byte refl) in
-    let told = c.in-ok-kind.ensures in
-    line_reads frame.kind (sound _ laws.listed) frame.figures laws.carried laws.chosen laws.told laws.made kinds known line c.in-ok-kind.fields.now told.0
-    (sym c.shape.ensures.kind ∙ sym c.if-kind-shape.false ∙ told.1) told.2 c.read-fields.result c.read-fields.ensures
+    let told = c.in_ok-kind.ensures in
+    line_reads frame.kind (sound _ laws.listed) frame.figures laws.carried laws.chosen laws.told laws.made kinds known line c.in_ok-kind.fields.now told.0
+    (sym c.shape.ensures.kind ∙ sym c.if-kind-shape.false ∙ told.1) told.2 c.read_fields.result c.read_fields.ensures

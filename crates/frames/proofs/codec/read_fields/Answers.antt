@@ -9,39 +9,39 @@ use Rattle.frames.proofs.Reading.{fields_refused, fields_made, fields_accepted}
 use Rattle.frames.proofs.Sound.{sound}
 use Rattle.frames.proofs.codec.read_fields.Goals as goal
 
-pub returns-then-not-all-digits : goal.returns-then-not-all-digits
-returns-then-not-all-digits g c =
+pub returns-then-not-all_digits : goal.returns-then-not-all_digits
+returns-then-not-all_digits g c =
     let frame = g.F.Frame in
     let laws = g.met.F.Frame in
     let fields = c.args.fields.now in
-    let none : are_digits fields ≡ false = sym c.if-not-all-digits.ensures in
+    let none : are_digits fields ≡ false = sym c.if-not-all_digits.ensures in
     fields_refused frame.kind (sound _ laws.listed) frame.figures laws.carried laws.chosen laws.told laws.made fields NotHexadecimal _ (ap Err c.fault.ensures)
     (ap (λ b. ask b NotHexadecimal (fields_refusal frame.kind fields)) none)
 
-pub returns-in-err-check : goal.returns-in-err-check
-returns-in-err-check g c =
+pub returns-in_err-check : goal.returns-in_err-check
+returns-in_err-check g c =
     let frame = g.F.Frame in
     let laws = g.met.F.Frame in
     let fields = c.args.fields.now in
-    let digits : are_digits fields ≡ true = sym c.if-not-all-digits.ensures in
-    let exit = err_from_is_err_and c.from-residual.result c.from-residual.ensures.1 in
-    let told = answer_err _ _ _ (fields_refusal frame.kind fields) _ c.in-err-check.ensures in
+    let digits : are_digits fields ≡ true = sym c.if-not-all_digits.ensures in
+    let exit = err_from_is_err_and c.from_residual.result c.from_residual.ensures.1 in
+    let told = answer_err _ _ _ (fields_refusal frame.kind fields) _ c.in_err-check.ensures in
     fields_refused frame.kind (sound _ laws.listed) frame.figures laws.carried laws.chosen laws.told laws.made fields told.0 _ (exit.1 ∙ ap Err (exit.2 ∙ told.2))
     (ap (λ b. ask b NotHexadecimal (fields_refusal frame.kind fields)) digits ∙ told.1)
 
-pub slice-bounds-record-of-end : goal.slice-bounds-record-of-end
-slice-bounds-record-of-end g c = let ok = sound _ g.met.F.Frame.listed in search rules
+pub slice_bounds-record_of-end : goal.slice_bounds-record_of-end
+slice_bounds-record_of-end g c = let ok = sound _ g.met.F.Frame.listed in search rules
 
 pub unreachable-requires : goal.unreachable-requires
 unreachable-requires g c =
     let frame = g.F.Frame in
     let laws = g.met.F.Frame in
     let fields = c.args.fields.now in
-    let digits : are_digits fields ≡ true = sym c.if-not-all-digits.ensures in
+    let digits : are_digits fields ≡ true = sym c.if-not-all_digits.ensures in
     let count : c.shape-count.result.fields - 0 ≡ length frame.kind.widths = omega (arith, c.shape-count.ensures.fields) in
-    let read = ap (λ n. take n c.read-numbers.new.numbers) count ∙ c.read-numbers.ensures in
+    let read = ap (λ n. take n c.read_numbers.new.numbers) count ∙ c.read_numbers.ensures in
     fields_made frame.kind (sound _ laws.listed) frame.figures laws.carried laws.chosen laws.told laws.made fields digits
-    (answer_ok _ _ _ _ (fields_refusal frame.kind fields) c.in-ok-check.ensures)
+    (answer_ok _ _ _ _ (fields_refusal frame.kind fields) c.in_ok-check.ensures)
     (λ x is. c.in-None.ensures x (is ∙ sym read))
 
 pub returns : goal.returns
@@ -49,9 +49,9 @@ returns g c =
     let frame = g.F.Frame in
     let laws = g.met.F.Frame in
     let fields = c.args.fields.now in
-    let digits : are_digits fields ≡ true = sym c.if-not-all-digits.ensures in
+    let digits : are_digits fields ≡ true = sym c.if-not-all_digits.ensures in
     let count : c.shape-count.result.fields - 0 ≡ length frame.kind.widths = omega (arith, c.shape-count.ensures.fields) in
-    let read = ap (λ n. take n c.read-numbers.new.numbers) count ∙ c.read-numbers.ensures in
+    let read = ap (λ n. take n c.read_numbers.new.numbers) count ∙ c.read_numbers.ensures in
     fields_accepted frame.kind (sound _ laws.listed) frame.figures laws.carried laws.chosen laws.told laws.made fields digits
-    (answer_ok _ _ _ _ (fields_refusal frame.kind fields) c.in-ok-check.ensures)
+    (answer_ok _ _ _ _ (fields_refusal frame.kind fields) c.in_ok-check.ensures)
     c.in-Some.found (c.in-Some.ensures ∙ read)

@@ -10,13 +10,13 @@ use Rattle.frames.proofs.codec.read_numbers.Goals as goal
 pub loop-place-init : goal.loop-place-init
 loop-place-init g c = read_none g.F.Frame.kind.widths c.args.fields.now c.args.numbers.now c.requires.size (search rules)
 
-pub overflow-add-end : goal.overflow-add-end
-overflow-add-end g c =
+pub overflow_add-end : goal.overflow_add-end
+overflow_add-end g c =
     let field = field_at _ (sound _ g.met.F.Frame.listed) _ c.shape-shape.ensures _ _ _ c.loop-place-test.true c.loop-place.invariant.left in
     search rules
 
-pub slice-bounds-number-end : goal.slice-bounds-number-end
-slice-bounds-number-end g c =
+pub slice_bounds-number-end : goal.slice_bounds-number-end
+slice_bounds-number-end g c =
     let field = field_at _ (sound _ g.met.F.Frame.listed) _ c.shape-shape.ensures _ _ _ c.loop-place-test.true c.loop-place.invariant.left in
     search rules
 

@@ -9,5 +9,5 @@ returns c =
     let line = c.args.line.now in
     let two : 2 ≤ length line = search rules in
     let even : length line % 2 ≡ 0 = search rules in
-    let digits : are_digits line ≡ true = sym c.all-digits.ensures ∙ c.if-not-all-digits.false in
+    let digits : are_digits line ≡ true = sym c.all_digits.ensures ∙ c.if-not-all_digits.false in
     (is_hexadecimal line digits even two, c.byte.ensures ∙ sym (ap number_of (first_two line two)), take_rest line 2)

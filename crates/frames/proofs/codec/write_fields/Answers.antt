@@ -10,18 +10,18 @@ use Rattle.frames.proofs.codec.write_fields.Goals as goal
 pub loop-place-init : goal.loop-place-init
 loop-place-init g c = wrote_none g.F.Frame.kind.widths (g.F.Frame.figures c.args.item.now) c.args.line.now c.requires
 
-pub overflow-mul-end : goal.overflow-mul-end
-overflow-mul-end g c =
+pub overflow_mul-end : goal.overflow_mul-end
+overflow_mul-end g c =
     let field = field_at _ (sound _ g.met.F.Frame.listed) _ c.shape-shape.ensures _ _ _ c.loop-place-test.true c.loop-place.invariant.left in
     search rules
 
-pub overflow-add-end : goal.overflow-add-end
-overflow-add-end g c =
+pub overflow_add-end : goal.overflow_add-end
+overflow_add-end g c =
     let field = field_at _ (sound _ g.met.F.Frame.listed) _ c.shape-shape.ensures _ _ _ c.loop-place-test.true c.loop-place.invariant.left in
     search rules
 
-pub slice-bounds-write-number-end : goal.slice-bounds-write-number-end
-slice-bounds-write-number-end g c =
+pub slice_bounds-write_number-end : goal.slice_bounds-write_number-end
+slice_bounds-write_number-end g c =
     let field = field_at _ (sound _ g.met.F.Frame.listed) _ c.shape-shape.ensures _ _ _ c.loop-place-test.true c.loop-place.invariant.left in
     search rules
 
@@ -33,12 +33,12 @@ loop-place-preserved g c =
     let at = c.loop-place.at in
     let line = c.loop-place.line in
     let w = get_or c.shape-shape.result.widths place 0 in
-    let n = get_or c.figures-of-figures.result place 0 in
+    let n = get_or c.figures_of-figures.result place 0 in
     let k = at + 2 * w - at in
     let field = field_at _ (sound _ g.met.F.Frame.listed) _ c.shape-shape.ensures _ _ _ c.loop-place-test.true c.loop-place.invariant.left in
     let long : length (take k (drop at line)) ≡ k = length-take-le k (drop at line) (omega (arith, field.within, length-drop at line)) in
-    let digits = c.write-number.ensures ∙ ap (λ j. digits_of j n) long in
-    let figure : n ≡ get_or figures place 0 = sym (get_or-take (length widths) c.figures-of-figures.result place 0 field.inside) ∙ ap (λ l. get_or l place 0) c.figures-of-figures.ensures in
+    let digits = c.write_number.ensures ∙ ap (λ j. digits_of j n) long in
+    let figure : n ≡ get_or figures place 0 = sym (get_or-take (length widths) c.figures_of-figures.result place 0 field.inside) ∙ ap (λ l. get_or l place 0) c.figures_of-figures.ensures in
     subst (λ l. WroteSofar widths figures (place + 1) (at + 2 * w) (put_mid at k line l)) (sym digits)
     (wrote_next widths figures place at line c.loop-place.invariant field.inside (same_count widths figures (g.met.F.Frame.carried c.args.item.now))
     w k n field.is (omega arith) figure)

@@ -5,13 +5,13 @@ use Rattle.frames.specs.Hex.{number_of, value_of}
 use Rattle.frames.specs.Numbers.{hex_from, number_next, number_room}
 use Rattle.frames.proofs.hex.number.Goals as goal
 
-pub overflow-mul-n : goal.overflow-mul-n
-overflow-mul-n c =
+pub overflow_mul-n : goal.overflow_mul-n
+overflow_mul-n c =
     let room = number_room c.args.field.now c.loop-code.code-index (hex_from _ c.requires.digits) c.requires.width c.loop-code-test.true in
     omega (arith, c.loop-code.invariant)
 
-pub overflow-add-n : goal.overflow-add-n
-overflow-add-n c =
+pub overflow_add-n : goal.overflow_add-n
+overflow_add-n c =
     let hex = hex_from _ c.requires.digits in
     let room = number_room c.args.field.now c.loop-code.code-index hex c.requires.width c.loop-code-test.true in
     let low = All-get_or (λ b. value_of b < 16) c.args.field.now c.loop-code.code-index 0 c.loop-code-test.true hex in

@@ -2,7 +2,7 @@ use Rattle.std.proofs.Common.{◌≡◌, ℕ, ◌+◌, ◌<◌, [], ◌∷◌, �
 use Rattle.std.proofs.lemmas.List.{take_more, length_push}
 use Rattle.lists.specs.Lists.{items, memory}
 use Rattle.rules.specs.Rows.{Rows}
-use Rattle.histories.specs.Histories.{Tally, tally, Fits, noted, History}
+use Rattle.histories.specs.Histories.{Tally, tally, Fits, History}
 use Rattle.histories.specs.Memories.{memory_of}
 use Rattle.histories.proofs.Steps.{history_next, written_next}
 use Rattle.histories.proofs.replay.run.Goals as goal
@@ -21,14 +21,14 @@ loop-step-preserved g c =
     let room = length (memory c.args.matches.now) in
     let start : Tally = tally (g.T.Top.tally c.args.top.now) (g.U.Cover.additions c.args.cover.now) in
     let before : Tally = tally (g.T.Top.tally c.loop-step.top) (g.U.Cover.additions c.loop-step.cover) in
-    let after : Tally = tally (g.T.Top.tally c.take-step-entry.new.top) (g.U.Cover.additions c.take-step-entry.new.cover) in
+    let after : Tally = tally (g.T.Top.tally c.take_step-entry.new.top) (g.U.Cover.additions c.take_step-entry.new.cover) in
     let script = c.args.script.now in
     let i = c.loop-step.step-index in
     let step = c.step-item.result in
-    let entry = c.take-step-entry.result in
+    let entry = c.take_step-entry.result in
     let log = c.loop-step.log in
     let inv = c.loop-step.invariant in
-    let took = c.take-step-entry.ensures in
+    let took = c.take_step-entry.ensures in
     let l : i < length script = c.loop-step-test.true in
     let added = c.note.ensures.noted in
     let at : length (items log) < length script = omega (arith, inv.2, l) in
@@ -46,7 +46,7 @@ loop-step-preserved g c =
       ap (drop (length script)) added.memory ∙ drop-set-lt (length script) (memory log) (length (items log)) entry at ∙ inv.5,
       took.under ∙ inv.6,
       written_next (items log) (items c.note.new.log) entry (memory_of c.args.classes.now c.args.matches.now)
-          (memory_of c.loop-step.classes c.loop-step.matches) (memory_of c.take-step-entry.new.classes c.take-step-entry.new.matches)
+          (memory_of c.loop-step.classes c.loop-step.matches) (memory_of c.take_step-entry.new.classes c.take_step-entry.new.matches)
           added.items inv.7 took.written,
       history_next rules means below places room start before after
           (take i script) (take (i + 1) script) (items log) (items c.note.new.log) step entry

@@ -15,5 +15,5 @@ returns-in-Ok c =
     record {
       told = told;
       memory = c.in-Ok.ensures.memory;
-      yields = λ count e. subst (λ k. YieldsFrames text before k c.answer-text.new.answer) (pos_same n count (ap told_in_c c.in-Ok.ensures.told ∙ sym told ∙ e)) c.in-Ok.ensures.yields;
+      yields = λ count e. subst (λ k. YieldsFrames text before k c.answer_text.new.answer) (pos_same n count (ap told_in_c c.in-Ok.ensures.told ∙ sym told ∙ e)) c.in-Ok.ensures.yields;
     }

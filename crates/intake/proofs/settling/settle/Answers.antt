@@ -15,7 +15,7 @@ returns-in-Ok c =
     let told = c.in-Ok.ensures.deposits in
     let passed = asked _ _ _ told.0 in
     record {
-      fills = subst (λ lines. Fills lines c.args.answer.now c.write-deposit.result c.write-deposit.new.answer)
-          (deposit_told rows nets (portfolio_fault rows nets) passed.1 _ told.1.classes _ told.1.summary) c.write-deposit.ensures.fills;
-      size = c.write-deposit.ensures.size;
+      fills = subst (λ lines. Fills lines c.args.answer.now c.write_deposit.result c.write_deposit.new.answer)
+          (deposit_told rows nets (portfolio_fault rows nets) passed.1 _ told.1.classes _ told.1.summary) c.write_deposit.ensures.fills;
+      size = c.write_deposit.ensures.size;
     }

@@ -11,12 +11,12 @@ returns-in-Ok c =
     let nets = table_nets c.in-Ok.intake.book in
     let fills : Fills (text_lines c.args.text.now) c.args.answer.now c.settle.result c.settle.new.answer =
     subst (λ lines. Fills lines c.args.answer.now c.settle.result c.settle.new.answer)
-    (ap (λ rows. deposit_lines (portfolio_fault rows nets) rows nets) c.put-in-force.ensures.rows ∙ sym (ap answer_lines c.in-Ok.ensures))
+    (ap (λ rows. deposit_lines (portfolio_fault rows nets) rows nets) c.put_in_force.ensures.rows ∙ sym (ap answer_lines c.in-Ok.ensures))
     c.settle.ensures.fills in
     record { fills = fills; size = c.settle.ensures.size; yields = yields c.args.text.now _ _ _ fills }
 
 pub returns-in-Err : goal.returns-in-Err
 returns-in-Err c =
-    let fills : Fills (text_lines c.args.text.now) c.args.answer.now c.write-fault.result c.write-fault.new.answer =
-    subst (λ lines. Fills lines c.args.answer.now c.write-fault.result c.write-fault.new.answer) (sym (ap answer_lines c.in-Err.ensures)) c.write-fault.ensures.fills in
-    record { fills = fills; size = c.write-fault.ensures.size; yields = yields c.args.text.now _ _ _ fills }
+    let fills : Fills (text_lines c.args.text.now) c.args.answer.now c.write_fault.result c.write_fault.new.answer =
+    subst (λ lines. Fills lines c.args.answer.now c.write_fault.result c.write_fault.new.answer) (sym (ap answer_lines c.in-Err.ensures)) c.write_fault.ensures.fills in
+    record { fills = fills; size = c.write_fault.ensures.size; yields = yields c.args.text.now _ _ _ fills }

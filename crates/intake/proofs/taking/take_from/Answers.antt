@@ -18,7 +18,7 @@ loop-part-init c =
 pub loop-part-preserved : goal.loop-part-preserved
 loop-part-preserved c =
     let first = c.in-Some.ensures.lines in
-    let took = c.in-ok-take-numbered.ensures in (
+    let took = c.in_ok-take_numbered.ensures in (
       taken c.loop-part.line (desk_of c.loop-part.intake) _ _ _ first _ c.loop-part.invariant.0 _ took.0 took.1,
       omega (arith, c.loop-part.invariant.1, ap length first),
     )

@@ -20,8 +20,8 @@ pub returns-in-Err : goal.returns-in-Err
 returns-in-Err c =
     let told = answer_err _ _ _ _ _ c.in-Err.ensures in
     record {
-      fills = subst (λ lines. Fills lines c.args.answer.now c.write-fault.result c.write-fault.new.answer)
-          (ap (λ f. fault_line (in_line 0 f) ∷ []) told.2 ∙ sym (ap (λ o. unless_long o c.args.text.now) told.1)) c.write-fault.ensures.fills;
-      size = c.write-fault.ensures.size;
+      fills = subst (λ lines. Fills lines c.args.answer.now c.write_fault.result c.write_fault.new.answer)
+          (ap (λ f. fault_line (in_line 0 f) ∷ []) told.2 ∙ sym (ap (λ o. unless_long o c.args.text.now) told.1)) c.write_fault.ensures.fills;
+      size = c.write_fault.ensures.size;
       yields = λ short. absurd (not_short (length c.args.text.now) told.0 short told.1);
     }

@@ -10,16 +10,16 @@ loop-class-init c =
     let answer = c.args.answer.now in
     (subst (λ lines. Fills lines answer 0 answer) (sym (records_none c.args.classes.now)) (no_line answer), omega arith)
 
-pub overflow-add-count : goal.overflow-add-count
-overflow-add-count c = omega (arith, c.loop-class.invariant.1, c.write-class-count.ensures.size, c.loop-class-test.true)
+pub overflow_add-count : goal.overflow_add-count
+overflow_add-count c = omega (arith, c.loop-class.invariant.1, c.write_class-count.ensures.size, c.loop-class-test.true)
 
 pub loop-class-preserved : goal.loop-class-preserved
 loop-class-preserved c =
     let middle = c.loop-class.answer in
     let count = c.loop-class.count in
-    let more = c.write-class-count.result in
-    let rest = c.write-class-count.new.memory in (
+    let more = c.write_class-count.result in
+    let rest = c.write_class-count.new.memory in (
       subst (λ lines. Fills lines c.args.answer.now (count + more) (put_mid count (length middle - count) middle rest)) (sym (records_more c.loop-class.class c.args.classes.now))
-          (more_lines _ _ _ middle count more rest c.loop-class.invariant.0 c.write-class-count.ensures.fills),
-      omega (arith, c.loop-class.invariant.1, c.write-class-count.ensures.size),
+          (more_lines _ _ _ middle count more rest c.loop-class.invariant.0 c.write_class-count.ensures.fills),
+      omega (arith, c.loop-class.invariant.1, c.write_class-count.ensures.size),
     )

@@ -10,19 +10,19 @@ returns-then-start-text c =
     let none = drop_all c.args.start c.args.text.now c.if-start-text.true in
     record { line = none; lines = ap lines_of none; after = ap after_line none; joined = lines_joined c.args.text.now }
 
-pub overflow-add-end : goal.overflow-add-end
-overflow-add-end c = let end = line_end _ _ _ c.if-start-text.false c.line-length.ensures in search rules
+pub overflow_add-end : goal.overflow_add-end
+overflow_add-end c = let end = line_end _ _ _ c.if-start-text.false c.line_length.ensures in search rules
 
-pub slice-bounds-result-end : goal.slice-bounds-result-end
-slice-bounds-result-end c = let end = line_end _ _ _ c.if-start-text.false c.line-length.ensures in search rules
+pub slice_bounds-result-end : goal.slice_bounds-result-end
+slice_bounds-result-end c = let end = line_end _ _ _ c.if-start-text.false c.line_length.ensures in search rules
 
 pub returns : goal.returns
 returns c =
     let text = c.args.text.now in
     let start = c.args.start in
-    let n = c.line-length.result in
+    let n = c.line_length.result in
     let rest = drop start text in
-    let end = line_end text start n c.if-start-text.false c.line-length.ensures in
+    let end = line_end text start n c.if-start-text.false c.line_length.ensures in
     let cut : start + n - start ≡ length (first_line rest) = omega (arith, end.0) in
     let some : 0 < length rest = omega (arith, length-drop start text, c.if-start-text.false) in
     let line : take (start + n - start) rest ≡ first_line rest = ap (λ k. take k rest) cut ∙ first_take rest in

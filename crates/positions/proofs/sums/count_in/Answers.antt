@@ -8,11 +8,11 @@ pub loop-position-init : goal.loop-position-init
 loop-position-init c = sym (sum_none _)
 
 -- what this turn counts
-counted : (c : goal.After-one-if-count) → c.one-if-count.result ≡ held_share c.args.class (get_or c.args.all.now c.loop-position.position-index nothing)
-counted c = c.one-if-count.ensures ∙ ap (λ (t : Bool). cond {A = ℕ} t 1 0) c.is-held-in.ensures
+counted : (c : goal.After-one_if-count) → c.one_if-count.result ≡ held_share c.args.class (get_or c.args.all.now c.loop-position.position-index nothing)
+counted c = c.one_if-count.ensures ∙ ap (λ (t : Bool). cond {A = ℕ} t 1 0) c.is_held_in.ensures
 
-pub overflow-add-count : goal.overflow-add-count
-overflow-add-count c =
+pub overflow_add-count : goal.overflow_add-count
+overflow_add-count c =
     let all = c.args.all.now in
     let i = c.loop-position.position-index in
     let k = c.args.class in

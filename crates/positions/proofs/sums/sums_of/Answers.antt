@@ -20,17 +20,17 @@ sold_next c = omega (arith, c.loop-position.invariant.1, c.shares.ensures.sold, 
 bounded : (c : After-shares) → (c.loop-position.bought.units + c.shares.result.0.units) + (c.loop-position.sold.units + c.shares.result.1.units) ≤ sum_limit
 bounded c = omega (arith, c.requires.long, bought_next c, sold_next c, sums_small c.args.all.now c.requires.small c.args.class (c.loop-position.position-index + 1))
 
-pub add-assign-requires : goal.add-assign-requires
-add-assign-requires c = omega (arith, bounded (goal.at.add-assign-requires c).After-shares)
+pub add_assign-requires : goal.add_assign-requires
+add_assign-requires c = omega (arith, bounded (goal.at.add_assign-requires c).After-shares)
 
-pub add-assign-requires-in-loop-position : goal.add-assign-requires-in-loop-position
-add-assign-requires-in-loop-position c = omega (arith, bounded (goal.at.add-assign-requires-in-loop-position c).After-shares)
+pub add_assign-requires-in-loop-position : goal.add_assign-requires-in-loop-position
+add_assign-requires-in-loop-position c = omega (arith, bounded (goal.at.add_assign-requires-in-loop-position c).After-shares)
 
 pub loop-position-preserved : goal.loop-position-preserved
 loop-position-preserved c =
     let d = (goal.at.loop-position-preserved c).After-shares in (
-      ap (λ (z : Zloty). z.units) c.add-assign.ensures.after ∙ bought_next d,
-      ap (λ (z : Zloty). z.units) c.add-assign-in-loop-position.ensures.after ∙ sold_next d,
+      ap (λ (z : Zloty). z.units) c.add_assign.ensures.after ∙ bought_next d,
+      ap (λ (z : Zloty). z.units) c.add_assign-in-loop-position.ensures.after ∙ sold_next d,
     )
 
 pub returns : goal.returns

@@ -9,13 +9,13 @@ use Rattle.positions.proofs.value.positions.Goals as goal
 pub loop-security-init : goal.loop-security-init
 loop-security-init g c = (refl, first_none _, λ s l. absurd (omega arith))
 
-pub returns-in-err-all : goal.returns-in-err-all
-returns-in-err-all g c =
+pub returns-in_err-all : goal.returns-in_err-all
+returns-in_err-all g c =
     let rows = g.S.Sheet.rows c.args.sheet.now in
     let nets = g.P.Positions.nets c.args.book.now in
     let i = c.loop-security.security in
-    let x = c.in-err-all.field-0.0 in
-    let h = answered_err Deposit i (position_of rows nets i) (security_refusal rows nets i) x c.in-err-all.ensures in
+    let x = c.in_err-all.field-0.0 in
+    let h = answered_err Deposit i (position_of rows nets i) (security_refusal rows nets i) x c.in_err-all.ensures in
     let first = first_found i 256 (security_fault rows nets) x c.loop-security-test.true c.loop-security.invariant.1 h in
     search rules
 
@@ -25,8 +25,8 @@ loop-security-preserved g c =
     let nets = g.P.Positions.nets c.args.book.now in
     let i = c.loop-security.security in
     let all = c.loop-security.all in
-    let p = c.in-ok-all.field-0 in
-    let h = answered_ok Deposit i (position_of rows nets i) (security_refusal rows nets i) p c.in-ok-all.ensures in
+    let p = c.in_ok-all.field-0 in
+    let h = answered_ok Deposit i (position_of rows nets i) (security_refusal rows nets i) p c.in_ok-all.ensures in
     let l : i < length all = omega (arith, c.loop-security.invariant.0) in (
       length-set all i p ∙ c.loop-security.invariant.0,
       first_more i (security_fault rows nets) c.loop-security.invariant.1 ∙ h.0,

@@ -1,4 +1,4 @@
-use Rattle.std.proofs.Common.{◌≡◌, ◌<◌, ℤ, ◌+ℤ◌, Ok, sym, ◌∙◌, subst, arith, w64, SFits, rules}
+use Rattle.std.proofs.Common.{◌≡◌, ◌<◌, ◌+ℤ◌, Ok, sym, ◌∙◌, subst, arith, w64, SFits, rules}
 use Rattle.std.proofs.lemmas.Int.{to_z-of_z}
 use Rattle.std.proofs.lemmas.Bool.{ltb-true}
 use Rattle.lists.specs.Lists.{items, Appended}
@@ -28,7 +28,7 @@ judged c =
     let f : SFits w64 c.sum-net.result = search rules in
     let n = to_z-of_z w64 c.sum-net.result f ∙ c.sum-net.ensures in
     let q = to_z-of_z w64 c.args.booking.quantity (quantity_fits c) in
-    let l = c.free-places-left.ensures in
+    let l = c.free_places-left.ensures in
     c.judge.ensures ∙ (λ i. booking_answer layers.Book (λ _. n i) (l i) c.args.booking.security (q i))
 
 yes : (c : After-judge) → c.judge.result ≡ Ok tt → Accepted (journal_nets c.args.self.now) (journal_left c.args.self.now) c.args.booking.security c.args.booking.quantity
@@ -41,30 +41,28 @@ free_place c e = ltb-true 0 (journal_left c.args.self.now) (yes c e).free
 -- so that the list takes the booking
 listed : (c : After-append) → Appended (record { security = c.args.booking.security; quantity = c.args.booking.quantity }) c.args.self.now.list c.append.new.self
 listed c =
-    let d = (goal.at.invariant-of-self c).After-judge in
-    let free = free_place d c.in-ok-judge.was in
+    let d = (goal.at.invariant_of-self c).After-judge in
+    let free = free_place d c.in_ok-judge.was in
     appended _ _ _ _ c.append.ensures.cases (omega arith)
 
-pub invariant-of-self : goal.invariant-of-self
-invariant-of-self c =
-    let d = (goal.at.invariant-of-self c).After-judge in
-    let e = c.in-ok-judge.was in
+pub invariant_of-self : goal.invariant_of-self
+invariant_of-self c =
+    let d = (goal.at.invariant_of-self c).After-judge in
+    let e = c.in_ok-judge.was in
     let j = c.args.self.now in
     let s = c.args.booking.security in
     let q = c.args.booking.quantity in
     let after = c.append.new.self in
-    let h = listed c in (
-      omega (arith, count_after s q j.list after h, free_place d e),
-      (
-        limited_after s q j.list after h j.limited (within_yes net_limit (total (items j.list) s +ℤ q) (yes d e).fits),
-        (known_after s q j.list after h (ltb-true s security_count (yes d e).known) j.known, tt),
-      ),
-    )
+    let h = listed c in record {
+      few = omega (arith, count_after s q j.list after h, free_place d e);
+      limited = limited_after s q j.list after h j.limited (within_yes net_limit (total (items j.list) s +ℤ q) (yes d e).fits);
+      known = known_after s q j.list after h (ltb-true s security_count (yes d e).known) j.known;
+    }
 
 pub returns : goal.returns
 returns c =
     let d = (goal.at.returns c).After-judge in
-    let e = c.in-ok-judge.was in
+    let e = c.in_ok-judge.was in
     let j = c.args.self.now in
     let s = c.args.booking.security in
     let q = c.args.booking.quantity in

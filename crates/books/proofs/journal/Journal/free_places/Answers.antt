@@ -2,6 +2,6 @@ use Rattle.std.proofs.Common.{arith}
 use Rattle.lists.proofs.Memory.{items_within}
 use Rattle.books.proofs.journal.Journal.free_places.Goals as goal
 
-pub overflow-sub-result : goal.overflow-sub-result
-overflow-sub-result c =
+pub overflow_sub-result : goal.overflow_sub-result
+overflow_sub-result c =
     omega (arith, items_within c.args.self.now.list, c.args.self.now.few, c.min.ensures, c.count.ensures, c.room.ensures)

@@ -4,17 +4,17 @@ use Rattle.lists.specs.Lists.{items}
 use Rattle.books.specs.Totals.{total}
 use Rattle.books.proofs.Sums.{total_more}
 use Rattle.books.proofs.journal.Journal.sum.Goals as goal
-use Rattle.books.proofs.journal.Journal.sum.Goals.{After-share-of-sum}
+use Rattle.books.proofs.journal.Journal.sum.Goals.{After-share_of-sum}
 
-more : (c : After-share-of-sum) → total (take (c.loop-at.at + 1) (items c.args.self.now.list)) c.args.security ≡ total (take c.loop-at.at (items c.args.self.now.list)) c.args.security +ℤ c.share-of-sum.result
+more : (c : After-share_of-sum) → total (take (c.loop-at.at + 1) (items c.args.self.now.list)) c.args.security ≡ total (take c.loop-at.at (items c.args.self.now.list)) c.args.security +ℤ c.share_of-sum.result
 more c =
     let h = c.in-Ok.ensures in
     let bs = items c.args.self.now.list in
     total_more bs c.loop-at.at c.in-Ok.booking c.args.security h.0 h.1
-    ∙ ap (λ z. total (take c.loop-at.at bs) c.args.security +ℤ z) (sym c.share-of-sum.ensures)
+    ∙ ap (λ z. total (take c.loop-at.at bs) c.args.security +ℤ z) (sym c.share_of-sum.ensures)
 
-pub overflow-add-sum : goal.overflow-add-sum
-overflow-add-sum c =
+pub overflow_add-sum : goal.overflow_add-sum
+overflow_add-sum c =
     let j = c.args.self.now in
     let i = c.loop-at.at in
     omega (arith, ints, more c, c.loop-at.invariant, j.limited i c.args.security, j.limited (i + 1) c.args.security)

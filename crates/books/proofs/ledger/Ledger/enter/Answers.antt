@@ -12,13 +12,13 @@ use Rattle.books.proofs.ledger.Ledger.enter.Goals.{After-judge}
 quantity_fits : (c : After-judge) → SFits w64 c.args.booking.quantity
 quantity_fits c = search rules
 
-net_is : (c : After-judge) → c.net-at-net.result ≡ get_or c.args.self.now.nets c.args.booking.security (pos 0)
-net_is c = c.net-at-net.ensures
+net_is : (c : After-judge) → c.net_at-net.result ≡ get_or c.args.self.now.nets c.args.booking.security (pos 0)
+net_is c = c.net_at-net.ensures
 
 judged : (c : After-judge) → c.judge.result ≡ booking_answer c.args.layer (λ s. get_or c.args.self.now.nets s (pos 0)) c.args.self.now.left c.args.booking.security c.args.booking.quantity
 judged c =
-    let f : SFits w64 c.net-at-net.result = search rules in
-    let n = to_z-of_z w64 c.net-at-net.result f ∙ net_is c in
+    let f : SFits w64 c.net_at-net.result = search rules in
+    let n = to_z-of_z w64 c.net_at-net.result f ∙ net_is c in
     let q = to_z-of_z w64 c.args.booking.quantity (quantity_fits c) in
     c.judge.ensures ∙ (λ i. booking_answer c.args.layer (λ _. n i) c.args.self.now.left c.args.booking.security (q i))
 
@@ -27,11 +27,11 @@ yes c e = was_accepted c.args.layer (λ s. get_or c.args.self.now.nets s (pos 0)
 
 -- the table as it is written
 moved : (c : After-judge) → c.judge.result ≡ Ok tt → (s : ℕ) →
-    get_or (set c.args.self.now.nets c.args.booking.security (to_z w64 (of_z w64 (to_z w64 (of_z w64 c.net-at-net.result) +ℤ to_z w64 (of_z w64 c.args.booking.quantity))))) s (pos 0)
+    get_or (set c.args.self.now.nets c.args.booking.security (to_z w64 (of_z w64 (to_z w64 (of_z w64 c.net_at-net.result) +ℤ to_z w64 (of_z w64 c.args.booking.quantity))))) s (pos 0)
     ≡ booked (λ t. get_or c.args.self.now.nets t (pos 0)) c.args.booking.security c.args.booking.quantity s
 moved c e s =
     let xs : List ℤ = c.args.self.now.nets in
-    let net = c.net-at-net.result in
+    let net = c.net_at-net.result in
     let quantity = c.args.booking.quantity in
     let yeses = yes c e in
     let same = ap (λ n. n +ℤ quantity) (net_is c) in
@@ -43,15 +43,15 @@ moved c e s =
     ap (λ v. get_or (set xs c.args.booking.security v) s (pos 0)) (sum_stored net quantity f (quantity_fits c) fits ∙ same)
     ∙ set_books xs c.args.booking.security quantity at s
 
-pub invariant-of-self : goal.invariant-of-self
-invariant-of-self c =
-    let d = (goal.at.invariant-of-self c).After-judge in
-    let e = c.in-ok-judge.was in
+pub invariant_of-self : goal.invariant_of-self
+invariant_of-self c =
+    let d = (goal.at.invariant_of-self c).After-judge in
+    let e = c.in_ok-judge.was in
     let new = within_yes net_limit (get_or c.args.self.now.nets c.args.booking.security (pos 0) +ℤ c.args.booking.quantity) (yes d e).fits in
-    (search rules, (λ s. subst (Within net_limit) (sym (moved d e s)) (booked_all (Within net_limit) (λ t. get_or c.args.self.now.nets t (pos 0)) _ _ c.args.self.now.limited new s), tt))
+    record { long = search rules; limited = λ s. subst (Within net_limit) (sym (moved d e s)) (booked_all (Within net_limit) (λ t. get_or c.args.self.now.nets t (pos 0)) _ _ c.args.self.now.limited new s) }
 
 pub returns : goal.returns
 returns c =
     let d = (goal.at.returns c).After-judge in
-    let e = c.in-ok-judge.was in
+    let e = c.in_ok-judge.was in
     accepts _ _ _ _ _ _ _ _ (sym e ∙ judged d) (moved d e) (omega (arith, ltb-true 0 c.args.self.now.left (yes d e).free)) tt

@@ -16,13 +16,13 @@ loop-security-preserved g c =
     let xs = c.loop-security.nets in
     let i = c.loop-security.security in
     let nets = g.B.Positions.nets c.args.book.now in
-    let v = c.net-of.result in
+    let v = c.net_of.result in
     let f : SFits w64 v = search rules in
     let at : i < length xs = omega arith in (
       search rules,
       λ s. ap (λ w. get_or (set xs i w) s (pos 0)) (to_z-of_z w64 v f) ∙ upto_next nets no_nets i (λ t. get_or (set xs i v) t (pos 0))
           (λ t ne. get_or-set_other xs i t v (pos 0) ne ∙ c.loop-security.invariant.1 t)
-          (get_or-set_same xs i v (pos 0) at ∙ c.net-of.ensures) s,
+          (get_or-set_same xs i v (pos 0) at ∙ c.net_of.ensures) s,
     )
 
 -- after the walk the table has the book's nets
@@ -32,9 +32,9 @@ copied g c s =
     let i = c.loop-security.security in
     c.loop-security.invariant.1 s ∙ upto_all nets no_nets i (λ t h. g.B.Positions.absent c.args.book.now t (omega arith)) s
 
-pub invariant-of-result : goal.invariant-of-result
-invariant-of-result g c =
-    (c.loop-security.invariant.0, (λ s. subst (Within net_limit) (sym (copied g c s)) (g.B.Positions.limited c.args.book.now s), tt))
+pub invariant_of-result : goal.invariant_of-result
+invariant_of-result g c =
+    record { long = c.loop-security.invariant.0; limited = λ s. subst (Within net_limit) (sym (copied g c s)) (g.B.Positions.limited c.args.book.now s) }
 
 pub returns : goal.returns
 returns g c = λ j s. copied g (goal.at.returns g c).After-loop-security s j

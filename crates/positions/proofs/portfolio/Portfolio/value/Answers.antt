@@ -1,9 +1,12 @@
 use Rattle.positions.proofs.Agreeing.{positions_small}
 use Rattle.positions.proofs.portfolio.Portfolio.value.Goals as goal
 
-pub invariant-of-result : goal.invariant-of-result
-invariant-of-result g c =
+pub invariant_of-result : goal.invariant_of-result
+invariant_of-result g c =
     let rows = g.S.Sheet.rows c.args.sheet.now in
     let nets = g.P.Positions.nets c.args.book.now in
-    let h = c.in-ok-all.ensures in
-    (h.1.long, (positions_small rows nets c.in-ok-all.all h.1 h.0 (g.S.Sheet.lawful c.args.sheet.now), tt))
+    let h = c.in_ok-all.ensures in
+    record {
+      long = h.1.long;
+      small = positions_small rows nets c.in_ok-all.all h.1 h.0 (g.S.Sheet.lawful c.args.sheet.now);
+    }

@@ -5,5 +5,5 @@ use Rattle.terms.proofs.money.Zloty.percentage.Goals as goal
 pub returns : goal.returns
 returns c = record {
   grosz = search rules;
-  lawful = λ l. omega (arith, c.capped.ensures, c.part-of.ensures, part_fits c.args.percent c.args.self.units l (search rules));
+  lawful = λ l. omega (arith, c.capped.ensures, c.part_of.ensures, part_fits c.args.percent c.args.self.units l (search rules));
 }

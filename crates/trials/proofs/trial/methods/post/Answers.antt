@@ -9,38 +9,38 @@ use Rattle.trials.proofs.Counts.{zero_bits, nonzero_bits}
 use Rattle.trials.proofs.Posting.{Posted, posted_none, posted_all, posted_same, posting_accepted, posted_next}
 use Rattle.trials.proofs.trial.methods.post.Given as given
 use Rattle.trials.proofs.trial.methods.post.Goals as goal
-use Rattle.trials.proofs.trial.methods.post.Goals.{After-trial-quantity-quantity, then-quantity-ne0+in-Ok, else-quantity-ne0}
+use Rattle.trials.proofs.trial.methods.post.Goals.{After-trial_quantity-quantity, then-quantity-ne0+in-Ok, else-quantity-ne0}
 
 pub loop-security-init : goal.loop-security-init
 loop-security-init g c = posted_none g.B.Positions.nets g.B.Book.left g.B.Book.posts g.B.Positions.layer (ledger_nets c.args.above.now) c.args.below.now
 
 -- the trial quantity where the walk stands
-quantity : (g : given.Over) (c : After-trial-quantity-quantity g) → ℤ
+quantity : (g : given.Over) (c : After-trial_quantity-quantity g) → ℤ
 quantity g c = trial_quantities (ledger_nets c.args.above.now) (g.B.Positions.nets c.loop-security.below) c.loop-security.security
 
 -- is what the code books
-booked_is : (g : given.Over) (c : After-trial-quantity-quantity g) → to_z w64 (of_z w64 c.trial-quantity-quantity.result) ≡ quantity g c
+booked_is : (g : given.Over) (c : After-trial_quantity-quantity g) → to_z w64 (of_z w64 c.trial_quantity-quantity.result) ≡ quantity g c
 unfolding quantity
 booked_is g c =
-    let f : SFits w64 c.trial-quantity-quantity.result = search rules in
-    to_z-of_z w64 c.trial-quantity-quantity.result f ∙ c.trial-quantity-quantity.ensures
+    let f : SFits w64 c.trial_quantity-quantity.result = search rules in
+    to_z-of_z w64 c.trial_quantity-quantity.result f ∙ c.trial_quantity-quantity.ensures
 
-moving : (g : given.Over) (c : After-trial-quantity-quantity g) → (of_z w64 c.trial-quantity-quantity.result ≡ 0 → ⊥) → is_zero (quantity g c) ≡ false
+moving : (g : given.Over) (c : After-trial_quantity-quantity g) → (of_z w64 c.trial_quantity-quantity.result ≡ 0 → ⊥) → is_zero (quantity g c) ≡ false
 unfolding quantity
-moving g c ne = sym (ap is_zero c.trial-quantity-quantity.ensures) ∙ nonzero_bits c.trial-quantity-quantity.result ne
+moving g c ne = sym (ap is_zero c.trial_quantity-quantity.ensures) ∙ nonzero_bits c.trial_quantity-quantity.result ne
 
-resting : (g : given.Over) (c : After-trial-quantity-quantity g) → of_z w64 c.trial-quantity-quantity.result ≡ 0 → is_zero (quantity g c) ≡ true
+resting : (g : given.Over) (c : After-trial_quantity-quantity g) → of_z w64 c.trial_quantity-quantity.result ≡ 0 → is_zero (quantity g c) ≡ true
 unfolding quantity
 resting g c e =
-    let f : SFits w64 c.trial-quantity-quantity.result = search rules in
-    sym (ap is_zero c.trial-quantity-quantity.ensures) ∙ zero_bits c.trial-quantity-quantity.result f e
+    let f : SFits w64 c.trial_quantity-quantity.result = search rules in
+    sym (ap is_zero c.trial_quantity-quantity.ensures) ∙ zero_bits c.trial_quantity-quantity.result f e
 
 pub unreachable-requires : goal.unreachable-requires
 unfolding quantity
 unreachable-requires g c =
     let m = g.B.Book in
     let p = g.B.Positions in
-    let d = (goal.at.unreachable-requires g c).After-trial-quantity-quantity in
+    let d = (goal.at.unreachable-requires g c).After-trial_quantity-quantity in
     let b = c.loop-security.below in
     let i = c.loop-security.security in
     let ok = posting_accepted p.nets m.left m.posts p.layer (ledger_nets c.args.above.now) c.args.below.now i b c.loop-security.invariant c.loop-security-test.true
@@ -52,7 +52,7 @@ unfolding quantity
 loop-security-preserved g c =
     let m = g.B.Book in
     let p = g.B.Positions in
-    let d = (goal.at.loop-security-preserved g c).After-trial-quantity-quantity in
+    let d = (goal.at.loop-security-preserved g c).After-trial_quantity-quantity in
     let b = c.loop-security.below in
     let i = c.loop-security.security in
     let above = ledger_nets c.args.above.now in

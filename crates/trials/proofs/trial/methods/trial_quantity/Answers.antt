@@ -6,8 +6,8 @@ use Rattle.trials.proofs.trial.methods.trial_quantity.Goals as goal
 
 pub returns : goal.returns
 returns g c =
-    let a = c.net_at_lem.result in
-    let b = c.net-of.result in
-    let h = subst (Within net_limit) (sym c.net_at_lem.ensures) (c.args.above.now.limited c.args.security) in
-    let k = subst (Within net_limit) (sym c.net-of.ensures) (g.B.Positions.limited c.args.below.now c.args.security) in
-    difference_stored a b (within_fits a h) (within_fits b k) (quantity_fits (a -ℤ b) (apart a b h k)) ∙ (λ i. c.net_at_lem.ensures i -ℤ c.net-of.ensures i)
+    let a = c.net_at.result in
+    let b = c.net_of.result in
+    let h = subst (Within net_limit) (sym c.net_at.ensures) (c.args.above.now.limited c.args.security) in
+    let k = subst (Within net_limit) (sym c.net_of.ensures) (g.B.Positions.limited c.args.below.now c.args.security) in
+    difference_stored a b (within_fits a h) (within_fits b k) (quantity_fits (a -ℤ b) (apart a b h k)) ∙ (λ i. c.net_at.ensures i -ℤ c.net_of.ensures i)

@@ -1,0 +1,7 @@
+use Rattle.std.proofs.Common.{◌≡◌, ◌∙◌, to_z, of_z, w64, rules}
+use Rattle.intake_c.proofs.dolzhivar_margin.Goals as goal
+
+pub returns-clause-yields : goal.returns-clause-yields
+returns-clause-yields c = λ count e.
+    let same : c.dolzhivar_margin.result ≡ to_z w64 (of_z w64 c.dolzhivar_margin.result) = search rules in
+    c.dolzhivar_margin.ensures.yields count (same ∙ e)
