@@ -1,8 +1,7 @@
 -- How an implementation shows what its bookings do.
-use Rattle.std.proofs.Common.{◌≡◌, ℕ, ◌+◌, true, ℤ, Some, None, Ok, Err, Option, sym, refl, subst, arith}
+use Rattle.std.proofs.Common.{◌≡◌, ℕ, ◌+◌, true, ℤ, Some, None, Ok, Option, sym, refl, subst, arith}
 use Rattle.std.proofs.lemmas.Bool.{both_ways}
 use Rattle.terms.specs.Questions.{answer}
-use Rattle.terms.specs.declared.fault.Fault.{Fault}
 use Rattle.terms.specs.declared.layer.Layer.{Layer}
 use Rattle.terms.specs.declared.refusal.Refusal.{Refusal}
 use Rattle.books.specs.Books.{Books, Answer, booking_refusal, booking_answer, booked}
@@ -12,10 +11,6 @@ use Rattle.books.proofs.Questions.{Accepted, all_yes}
 told : {A : Type 0} (layer : Layer) (place : ℕ) (x v : A) (refusal : Option Refusal) → Ok v ≡ answer layer place x refusal → (refusal ≡ None) × (v ≡ x)
 told layer place x v None e = (refl, cc)
 told layer place x v (Some refusal) e = let z : ◌≡◌ {A = ℕ} 0 1 = cc in absurd (omega arith)
-
--- what is accepted is not refused
-pub ok_not_err : (r : Answer) (e : Fault) → r ≡ Ok tt → r ≡ Err e → ⊥
-ok_not_err r e p q = let z : ◌≡◌ {A = ℕ} 0 1 = cc in omega arith
 
 -- an accepted booking had every question answered yes
 pub was_accepted : (layer : Layer) (nets : ℕ → ℤ) (left security : ℕ) (quantity : ℤ) → Ok tt ≡ booking_answer layer nets left security quantity → Accepted nets left security quantity

@@ -3,3 +3,4 @@ pub mod Limits
 pub mod Questions
 pub mod Sums
 pub mod Walks
+pub mod Tables

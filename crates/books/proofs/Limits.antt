@@ -52,11 +52,6 @@ quantity_fits (negsuc n) h = record { sfits = omega (arith, ints) }
 pub apart : (a b : ℤ) → Within net_limit a → Within net_limit b → Within quantity_limit (a -ℤ b)
 apart a b h k = omega (arith, ints)
 
--- a sum that fits is stored as it is
-pub sum_stored : (n q : ℤ) → SFits w64 n → SFits w64 q → SFits w64 (n +ℤ q) → to_z w64 (of_z w64 (to_z w64 (of_z w64 n) +ℤ to_z w64 (of_z w64 q))) ≡ n +ℤ q
-sum_stored n q f g h =
-    ap (λ z. to_z w64 (of_z w64 z)) (λ i. to_z-of_z w64 n f i +ℤ to_z-of_z w64 q g i) ∙ to_z-of_z w64 (n +ℤ q) h
-
 -- a table of zeros has 0 everywhere
 pub zeros : (n s : ℕ) → get_or (replicate n (pos 0)) s (pos 0) ≡ pos 0
 zeros n s =

@@ -1,19 +1,15 @@
 -- The questions put to a booking, each answered.
-use Rattle.std.proofs.Common.{◌≡◌, ℕ, Bool, true, false, ltb, ℤ, ◌+ℤ◌, Some, None, Option, refl, ap, ◌∙◌, arith}
+use Rattle.std.proofs.Common.{◌≡◌, ℕ, Bool, true, false, ltb, ℤ, ◌+ℤ◌, None, Option, refl, ap, ◌∙◌, arith}
 use Rattle.terms.specs.Limits.{net_limit}
 use Rattle.terms.specs.Questions.{ask}
 use Rattle.terms.specs.declared.refusal.Refusal.{Refusal}
-use Rattle.terms.specs.declared.refusal.Refusal.TheVariants.{NetOutOfRange}
 use Rattle.books.specs.Books.{listed, bookable, within, booking_refusal}
 
 pub ask_yes : (b : Bool) (refusal : Refusal) (next : Option Refusal) → b ≡ true → ask b refusal next ≡ next
 ask_yes b refusal next e = ap (λ x. ask x refusal next) e
 
-pub ask_no : (b : Bool) (refusal : Refusal) (next : Option Refusal) → b ≡ false → ask b refusal next ≡ Some refusal
-ask_no b refusal next e = ap (λ x. ask x refusal next) e
-
 -- where all are answered yes, each is
-ask_none : (b : Bool) (refusal : Refusal) (next : Option Refusal) → ask b refusal next ≡ None → (b ≡ true) × (next ≡ None)
+pub ask_none : (b : Bool) (refusal : Refusal) (next : Option Refusal) → ask b refusal next ≡ None → (b ≡ true) × (next ≡ None)
 ask_none true refusal next e = (refl, e)
 ask_none false refusal next e = let z : ◌≡◌ {A = ℕ} 0 1 = cc in absurd (omega arith)
 
@@ -36,6 +32,3 @@ module _ (nets : ℕ → ℤ) (left security : ℕ) (quantity : ℤ) where
       let c = ask_none _ _ _ b.1 in
       let d = ask_none _ _ _ c.1 in
       record { known = a.0; lawful = b.0; free = c.0; fits = d.0 }
-
-  pub net_refused : listed security ≡ true → bookable quantity ≡ true → ltb 0 left ≡ true → within net_limit (nets security +ℤ quantity) ≡ false → booking_refusal nets left security quantity ≡ Some NetOutOfRange
-  net_refused a b c d = ask_yes _ _ _ a ∙ ask_yes _ _ _ b ∙ ask_yes _ _ _ c ∙ ask_no _ _ _ d

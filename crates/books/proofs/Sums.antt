@@ -19,9 +19,8 @@ total_push [] b s = +ℤ_idr (share b s) ∙ sym (+ℤ_idl (share b s))
 total_push (x ∷ bs) b s = ap (λ z. share x s +ℤ z) (total_push bs b s) ∙ sym (+ℤ_assoc (share x s) (total bs s) (share b s))
 
 -- one booking more of a walk
-pub total_more : (bs : L.List Booking) (i : ℕ) (b : Booking) (s : ℕ) → i < length bs → b ≡ get_or bs i b → total (take (i + 1) bs) s ≡ total (take i bs) s +ℤ share b s
-total_more bs i b s h e =
-    ap (λ l. total l s) (take_more bs i b h ∙ ap (λ x. take i bs ++ x ∷ []) (sym e)) ∙ total_push (take i bs) b s
+pub total_more : (bs : L.List Booking) (i : ℕ) (d : Booking) (s : ℕ) → i < length bs → total (take (i + 1) bs) s ≡ total (take i bs) s +ℤ share (get_or bs i d) s
+total_more bs i d s h = ap (λ l. total l s) (take_more bs i d h) ∙ total_push (take i bs) (get_or bs i d) s
 
 pub total_none : (n s : ℕ) → total (take n []) s ≡ pos 0
 total_none zero s = refl

@@ -5,6 +5,7 @@ ghost use Rattle.terms.specs.Limits.{net_limit, security_count};
 ghost use Rattle.terms.specs.Questions.{answer};
 ghost use Rattle.terms.specs.declared.layer.Layer.{Layer};
 
+use crate::booking::Booking;
 use terms::fault::Fault;
 
 // The reading half: the signed net of each security.
@@ -32,23 +33,21 @@ pub trait Book: Positions {
     ghost left: { Self → ℕ };
 
     // What an accepted booking does to the whole value, memory handed in included.
+    // Kept: laws speak of a security and a quantity, not of a `Booking`: what they are made of, as `booked`, takes each alone.
     ghost posts: { Self → ℕ → ℤ → Self → Type 0 };
 
     // How many more bookings the book takes.
     fn bookings_left(&self) -> u32
         ensures { result ≡ left self.now };
 
-    // Adds a quantity to the net of a security: bought ones are positive.
-    fn book(&mut self, security: u16, quantity: i64) -> Result<(), Fault>
-        ensures { Books Self.Positions.nets left posts Self.Positions.layer self.old security quantity result self.new };
+    // Adds the quantity of a booking to the net of its security.
+    fn book(&mut self, booking: Booking) -> Result<(), Fault>
+        ensures { Books Self.Positions.nets left posts Self.Positions.layer self.old booking.security booking.quantity result self.new };
 }
 
 // The net of a security, and 0 where there is no such security.
 pub fn net_of<B: Positions>(book: &B, security: u16) -> i64
     ensures { result ≡ B.Positions.nets book.now security }
 {
-    match book.net(security) {
-        Ok(net) => net,
-        Err(_) => 0,
-    }
+    book.net(security).unwrap_or(0)
 }

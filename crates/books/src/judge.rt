@@ -1,8 +1,10 @@
 // The questions that every book puts to a booking, once its net is read.
-ghost use Rattle.books.specs.Books.{booking_answer, bookable, within, Within};
+ghost use Rattle.books.specs.Books.{booking_answer, bookable, reading_refusal, within, Within};
 ghost use Rattle.terms.specs.Limits.{net_limit};
+ghost use Rattle.terms.specs.Questions.{answer};
 ghost use Rattle.std.specs.Prelude.{◌≡◌};
 
+use crate::booking::Booking;
 use terms::fault::Fault;
 use terms::layer::Layer;
 use terms::limits::{NET_LIMIT, QUANTITY_LIMIT, SECURITIES};
@@ -12,30 +14,34 @@ use terms::refusal::Refusal;
 pub(crate) fn is_within_limit(net: i64) -> bool
     ensures { result ≡ within net_limit net }
 {
-    -NET_LIMIT <= net && net <= NET_LIMIT
+    (-NET_LIMIT..=NET_LIMIT).contains(&net)
 }
 
 // Whether a booking may have this quantity.
 pub(crate) fn is_bookable(quantity: i64) -> bool
     ensures { result ≡ bookable quantity }
 {
-    quantity != 0 && -QUANTITY_LIMIT <= quantity && quantity <= QUANTITY_LIMIT
+    quantity != 0 && (-QUANTITY_LIMIT..=QUANTITY_LIMIT).contains(&quantity)
+}
+
+// A fault where there is no such security.
+pub(crate) fn known(layer: Layer, security: u16) -> Result<(), Fault>
+    ensures { result ≡ answer layer security tt (reading_refusal security) }
+{
+    if security as usize >= SECURITIES {
+        return Err(layer.fault(security, Refusal::UnknownSecurity));
+    }
+    Ok(())
 }
 
 // The answer to a booking of a security that has this net, in a book with so many bookings left.
-pub(crate) fn judge(
-    layer: Layer,
-    security: u16,
-    quantity: i64,
-    left: u32,
-    net: i64,
-) -> Result<(), Fault>
+pub(crate) fn judge(layer: Layer, booking: Booking, left: u32, net: i64) -> Result<(), Fault>
     requires { Within net_limit net }
-    ensures { result ≡ booking_answer layer (λ _. net) left security quantity }
+    ensures { result ≡ booking_answer layer (λ _. net) left booking.security booking.quantity }
 {
-    let refusal = if security as usize >= SECURITIES {
-        Refusal::UnknownSecurity
-    } else if !is_bookable(quantity) {
+    let Booking { security, quantity } = booking;
+    known(layer, security)?;
+    let refusal = if !is_bookable(quantity) {
         Refusal::QuantityOutOfRange
     } else if left == 0 {
         Refusal::NoBookingLeft
@@ -44,9 +50,5 @@ pub(crate) fn judge(
     } else {
         return Ok(());
     };
-    Err(Fault {
-        refusal,
-        layer,
-        place: security,
-    })
+    Err(layer.fault(security, refusal))
 }

@@ -2,6 +2,7 @@
 ghost use Rattle.std.specs.Prelude.{◌≡◌};
 
 use crate::book::{Book, Positions};
+use crate::booking::Booking;
 use terms::fault::Fault;
 
 impl<'b, B: Positions> Positions for &'b mut B {
@@ -28,7 +29,7 @@ impl<'b, B: Book> Book for &'b mut B {
         (**self).bookings_left()
     }
 
-    fn book(&mut self, security: u16, quantity: i64) -> Result<(), Fault> {
-        (**self).book(security, quantity)
+    fn book(&mut self, booking: Booking) -> Result<(), Fault> {
+        (**self).book(booking)
     }
 }

@@ -6,6 +6,7 @@ ghost use Rattle.terms.specs.declared.layer.Layer.TheVariants as layers;
 ghost use Rattle.std.specs.Prelude.{◌≡◌};
 
 use crate::book::{Book, Positions};
+use crate::booking::Booking;
 use crate::ledger::Ledger;
 use terms::fault::Fault;
 use terms::layer::Layer;
@@ -52,7 +53,7 @@ impl Book for NetTable {
         self.ledger.bookings_left()
     }
 
-    fn book(&mut self, security: u16, quantity: i64) -> Result<(), Fault> {
-        self.ledger.book(Layer::Book, security, quantity)
+    fn book(&mut self, booking: Booking) -> Result<(), Fault> {
+        self.ledger.book(Layer::Book, booking)
     }
 }

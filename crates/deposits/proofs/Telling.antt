@@ -13,7 +13,7 @@ use Rattle.rules.specs.Sums.{sum_below, sum_belowℤ, count_below}
 use Rattle.rules.specs.Rows.{Rows, Lawful, LawfulClass, LawfulSecurity, Present, Has, Every, figure}
 use Rattle.rules.specs.Margin.{rounded, step, match_of, bought, sold, net_value, leftovers, credits, matches, DRR, DRS, DSWK, KSPK, DOLR, DSPAN, has_class, in_class}
 use Rattle.rules.specs.Held.{held, held_in, held_class, both_held, count_pairs, pairs_held, classes_held}
-use Rattle.rules.specs.Laws.{Matched, sum_limit, deposit_limit}
+use Rattle.rules.specs.Laws.{Matched, Matching, sum_limit, deposit_limit}
 use Rattle.rules.proofs.Parts.{nat_abs_is}
 use Rattle.rules.proofs.Sums.{sum_same, sum_zero}
 use Rattle.rules.proofs.Walk.{Apart, Below, Agree, credits_agree, leftovers_agree, matches_agree, every_map, walk_shrinks}
@@ -21,8 +21,7 @@ use Rattle.rules.proofs.Theorems.{credits_within, matching}
 use Rattle.rules.proofs.Classes.{abs_minus, figure_small, nothing}
 use Rattle.rules.proofs.Fits.{part_small, parts_small}
 use Rattle.rules.proofs.Values.{rounded_none}
-use Rattle.sheets.specs.declared.reading.Rates.{Rates}
-use Rattle.sheets.specs.Readings.{rates_in}
+use Rattle.sheets.specs.Readings.{Figures, rates_in}
 use Rattle.positions.specs.declared.position.Position.{Position}
 use Rattle.positions.specs.Questions.{portfolio_fault}
 use Rattle.positions.specs.Values.{zl, bought_in, sold_in, count_in_lem, Valued}
@@ -46,7 +45,7 @@ below rows h = every_map (λ p s. record { one = s.one; other = s.other; apart =
 
 -- ---- a class that is not held
 
-idle_record : (r : Rates) (pk ps n : ℕ) (l : ℤ) (k : ℕ) → pk ≡ 0 → ps ≡ 0 → n ≡ 0 → l ≡ pos 0 → k ≡ 0 → closed (walked (opened_by r pk ps (ltb 0 n)) l k) ≡ none
+idle_record : (r : Figures) (pk ps n : ℕ) (l : ℤ) (k : ℕ) → pk ≡ 0 → ps ≡ 0 → n ≡ 0 → l ≡ pos 0 → k ≡ 0 → closed (walked (opened_by r pk ps (ltb 0 n)) l k) ≡ none
 idle_record r pk ps n l k a b d e f =
     let shape : ℕ → ℕ → ℕ → ClassMargin = λ u v w. record { bought = zl 0; sold = zl 0; leftover = pos 0; held = false; drr = gr u; drs = gr v; dswk = gr w; kspk = gr 0; dolr = gr (u - 0 + v + w) } in
     ap₂ (λ (q s : ℕ). closed (walked (opened_by r q s (ltb 0 n)) l k)) a b
@@ -103,13 +102,10 @@ matches_told f [] = refl
 matches_told f (p ∷ ps) = ap (λ (l : L.List ℕ). match_of f p ∷ l) (matches_told (step f p) ps)
 
 -- cs are the records before the walk
-module _ (rows : Rows) (lawful : Lawful rows) (nets : ℕ → ℤ) (all : L.List Position) (pass : portfolio_fault rows nets ≡ None) (p : Valued rows nets all)
+module _ (rows : Rows) (lawful : Lawful rows) (nets : ℕ → ℤ) (all : L.List (Option Position)) (pass : portfolio_fault rows nets ≡ None) (p : Valued rows nets all)
     (cs : L.List ClassMargin) (o : (c : ℕ) → c < class_count → get_or cs c none ≡ opened rows all c) where
   small : (c : ℕ) → bought_in all c security_count + sold_in all c security_count ≤ sum_limit
   small c = omega (arith, sums_small all (positions_small rows nets all p pass lawful) c security_count)
-
-  pub fresh : (c : ℕ) → c < class_count → (get_or cs c none).kspk.grosz ≡ 0
-  fresh c l = ap (λ (w : ClassMargin). w.kspk.grosz) (o c l)
 
   pub left_small : (c : ℕ) → c < class_count → nat_abs (left_of cs c) ≤ 2 ^ 62
   left_small c l = omega (arith, small c, ap (λ (w : ClassMargin). nat_abs w.leftover) (o c l), abs_minus (bought_in all c security_count) (sold_in all c security_count))
@@ -217,6 +213,7 @@ module _ (rows : Rows) (lawful : Lawful rows) (nets : ℕ → ℤ) (all : L.List
         (cases_lt c class_count)
 
     pub matched_is : (ms : L.List ℕ) → ms ≡ matches (net_value rounded rows nets) rows.pairs → Matched (net_value rounded rows nets) rows.pairs ms (left_told ds)
+    unfolding Matching
     matched_is ms h =
         let v : ℕ → ℤ = net_value rounded rows nets in
         subst (λ (f : ℕ → ℤ). Matched v rows.pairs ms f) (sym (fun_ext left_at))

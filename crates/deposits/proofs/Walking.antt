@@ -1,16 +1,16 @@
 -- The walk over the pairs, one pair more at a time. Assumes nothing.
-use Rattle.std.proofs.Common.{◌≡◌, ℕ, zero, suc, ◌+◌, ◌^◌, ◌<◌, ◌≤◌, Bool, true, cond, eqb, ◌≢◌, List, [], ◌∷◌, ◌++◌, length, get_or, take, drop, set, ℤ, nat_abs, Some, None, sym, refl, ap, ◌∙◌, subst, ap₂, ⊎_elim, append_assoc, add-one, arith, length-set, length-take-le, drop-cons}
+use Rattle.std.proofs.Common.{◌≡◌, ℕ, suc, ◌+◌, ◌^◌, ◌<◌, ◌≤◌, Bool, true, cond, eqb, ◌≢◌, List, [], ◌∷◌, ◌++◌, length, get_or, drop, set, ℤ, nat_abs, sym, refl, ap, ◌∙◌, subst, ap₂, ⊎_elim, append_assoc, add-one, arith, length-set, drop-cons}
 use lib.Seq.{set_at}
 use Rattle.std.proofs.lemmas.List.{get_or-set_same, get_or-set_other}
 use Rattle.std.proofs.lemmas.Bool.{cases_eq, eq-eqb, ne_eqb, cond-true, cond-false, or_left, or_right, or_from}
+use Rattle.std.specs.Prelude.{count_by}
+use Rattle.std.proofs.lemmas.List.Sums.{sum_by-cons}
 use Rattle.rules.specs.declared.rows.PairRow.{PairRow}
-use Rattle.std.specs.List.{slice_get}
 use Rattle.terms.specs.Limits.{class_count, whole}
 use Rattle.rules.specs.Rows.{Rows, Lawful, LawfulPair, Every}
 use Rattle.rules.specs.Margin.{Rounding, rounded, match_of, matched, of_pair, step, leftovers, credits, towards}
 use Rattle.rules.specs.Held.{count_pairs}
 use Rattle.rules.proofs.Parts.{nat_abs_is}
-use Rattle.positions.proofs.Summing.{one_within}
 use Rattle.rules.proofs.Walk.{walk_shrinks, every_map, step_first, step_second, step_else}
 use Rattle.rules.proofs.Credit.{Capped, every_apart, credits_capped}
 use Rattle.rules.proofs.Runs.{PairLawful}
@@ -22,11 +22,11 @@ use Rattle.deposits.specs.Records.{left_of, walked, with_credit, part, served, S
 
 -- ---- one pair more
 
-leftovers_push : (f : ℕ → ℤ) (ps : List PairRow) (p : PairRow) → leftovers f (ps ++ p ∷ []) ≡ step (leftovers f ps) p
+pub leftovers_push : (f : ℕ → ℤ) (ps : List PairRow) (p : PairRow) → leftovers f (ps ++ p ∷ []) ≡ step (leftovers f ps) p
 leftovers_push f [] p = refl
 leftovers_push f (q ∷ ps) p = leftovers_push (step f q) ps p
 
-credits_push : (k : Rounding) (f : ℕ → ℤ) (ps : List PairRow) (p : PairRow) (c : ℕ) →
+pub credits_push : (k : Rounding) (f : ℕ → ℤ) (ps : List PairRow) (p : PairRow) (c : ℕ) →
     credits k f (ps ++ p ∷ []) c ≡ credits k f ps c + cond (of_pair p c) (k.credit p.crt (match_of (leftovers f ps) p)) 0
 credits_push k f [] p c = omega arith
 credits_push k f (q ∷ ps) p c = omega (arith, credits_push k (step f q) ps p c)
@@ -39,35 +39,15 @@ pub told_length : (f : ℕ → ℤ) (ps : List PairRow) → length (told_by f ps
 told_length f [] = refl
 told_length f (q ∷ ps) = ap suc (told_length (step f q) ps)
 
--- ---- a pair read by its place
+-- ---- what holds of each pair holds of those before a place and of those after it
 
-pub item_within : {A : Type 0} (xs : List A) (i : ℕ) (x : A) → slice_get xs i ≡ Some x → i < length xs
-item_within [] i x e = absurd (let z : ◌≡◌ {A = ℕ} 0 1 = cc in omega arith)
-item_within (y ∷ xs) zero x e = omega arith
-item_within (y ∷ xs) (suc i) x e = omega (arith, item_within xs i x e)
+pub every_front : {A : Type 0} (P : A → Type 0) (xs ys : List A) → Every P (xs ++ ys) → Every P xs
+every_front P [] ys h = tt
+every_front P (x ∷ xs) ys h = (h.0, every_front P xs ys h.1)
 
-pub item_past : {A : Type 0} (xs : List A) (i : ℕ) → slice_get xs i ≡ None → length xs ≤ i
-item_past [] i e = omega arith
-item_past (y ∷ xs) zero e = absurd (let z : ◌≡◌ {A = ℕ} 0 1 = cc in omega arith)
-item_past (y ∷ xs) (suc i) e = omega (arith, item_past xs i e)
-
-take_item : {A : Type 0} (xs : List A) (i : ℕ) (x : A) → slice_get xs i ≡ Some x → take (suc i) xs ≡ take i xs ++ x ∷ []
-take_item [] i x e = absurd (let z : ◌≡◌ {A = ℕ} 0 1 = cc in omega arith)
-take_item (y ∷ xs) zero x e = ap (λ a. a ∷ []) (cc)
-take_item (y ∷ xs) (suc i) x e = ap (λ l. y ∷ l) (take_item xs i x e)
-
-pub take_next : {A : Type 0} (xs : List A) (i : ℕ) (x : A) → slice_get xs i ≡ Some x → take (i + 1) xs ≡ take i xs ++ x ∷ []
-take_next xs i x e = ap (λ k. take k xs) (add-one i) ∙ take_item xs i x e
-
-every_item : {A : Type 0} (P : A → Type 0) (xs : List A) (i : ℕ) (x : A) → Every P xs → slice_get xs i ≡ Some x → P x
-every_item P [] i x h e = absurd (let z : ◌≡◌ {A = ℕ} 0 1 = cc in omega arith)
-every_item P (y ∷ xs) zero x h e = let same : y ≡ x = cc in subst P same h.0
-every_item P (y ∷ xs) (suc i) x h e = every_item P xs i x h.1 e
-
-every_take : {A : Type 0} (P : A → Type 0) (xs : List A) (i : ℕ) → Every P xs → Every P (take i xs)
-every_take P xs zero h = tt
-every_take P [] (suc i) h = tt
-every_take P (y ∷ xs) (suc i) h = (h.0, every_take P xs i h.1)
+pub every_back : {A : Type 0} (P : A → Type 0) (xs ys : List A) → Every P (xs ++ ys) → Every P ys
+every_back P [] ys h = h
+every_back P (x ∷ xs) ys h = every_back P xs ys h.1
 
 -- ---- what the laws of a rows say of its pairs
 
@@ -77,11 +57,23 @@ sound rows h p l = let q : PairLawful p = lawful_pair rows h p l in record { one
 pub sounds : (rows : Rows) → Lawful rows → Every Sound rows.pairs
 sounds rows h = every_map (sound rows h) rows.pairs h.of_pairs
 
-pub sound_at : (rows : Rows) → Lawful rows → (i : ℕ) (p : PairRow) → slice_get rows.pairs i ≡ Some p → Sound p
-sound_at rows h i p e = every_item Sound rows.pairs i p (sounds rows h) e
-
 capped : (ps : List PairRow) → Every Sound ps → Every (Capped (λ c. whole)) ps
 capped ps h = every_map (λ p s. record { apart = s.apart; cap = λ c t. s.small }) ps h
+
+-- ---- two places written: a property of each, at the second place, at the first, elsewhere
+
+pub two_places : {X : Type 0} (d : X) (ls : List X) (i j : ℕ) (P Q : X) → i < length ls → j < length ls → i ≢ j → (R : ℕ → X → Type 0) → R i P → R j Q →
+    (c : ℕ) → (c ≢ i → c ≢ j → R c (get_or ls c d)) → R c (get_or (set (set ls i P) j Q) c d)
+two_places {X = X} d ls i j P Q a b k R f s c e =
+    let ys : List X = set (set ls i P) j Q in
+    ⊎_elim
+    (λ (q : c ≡ j). subst (λ (n : ℕ). R n (get_or ys n d)) (sym q) (rw (get_or-set_same (set ls i P) j Q d (rw (length-set) b)) s))
+    (λ (n : c ≡ j → ⊥). rw (get_or-set_other (set ls i P) j c Q d n)
+    (⊎_elim
+    (λ (q : c ≡ i). subst (λ (n : ℕ). R n (get_or (set ls i P) n d)) (sym q) (rw (get_or-set_same ls i P d a) f))
+    (λ (m : c ≡ i → ⊥). rw (get_or-set_other ls i c P d m) (e m n))
+    (cases_eq c i)))
+    (cases_eq c j)
 
 -- ---- the records that a walk over ps leads to from cs₀
 
@@ -102,22 +94,6 @@ module _ (cs₀ : List ClassMargin) (ps : List PairRow) (cs : List ClassMargin) 
         omega (arith, h c b, nat_abs_is (f c), nat_abs_is (leftovers f ps c), ap nat_abs (left_reached c b), walk_shrinks f ps (every_apart (λ c. whole) ps (capped ps s)) c),
         omega (arith, h c b, k, credits_capped (λ c. whole) f ps (capped ps s) c),
       )
-
-  -- a property of each place: at the second class, at the first, elsewhere
-  places : (p : PairRow) (P Q : ClassMargin) → p.first < length cs → p.second < length cs → p.first ≢ p.second →
-      (R : ℕ → ClassMargin → Type 0) → R p.first P → R p.second Q → (c : ℕ) → (c ≢ p.first → c ≢ p.second → R c (get_or cs c none)) →
-      R c (get_or (set (set cs p.first P) p.second Q) c none)
-  places p P Q i j d R f s k e =
-      let ys : List ClassMargin = set (set cs p.first P) p.second Q in
-      ⊎_elim
-      (λ (q : k ≡ p.second). subst (λ (n : ℕ). R n (get_or ys n none)) (sym q)
-      (rw (get_or-set_same (set cs p.first P) p.second Q none (rw (length-set) j)) s))
-      (λ (n : k ≡ p.second → ⊥). rw (get_or-set_other (set cs p.first P) p.second k Q none n)
-      (⊎_elim
-      (λ (q : k ≡ p.first). subst (λ (n : ℕ). R n (get_or (set cs p.first P) n none)) (sym q) (rw (get_or-set_same cs p.first P none i) f))
-      (λ (m : k ≡ p.first → ⊥). rw (get_or-set_other cs p.first k P none m) (e m n))
-      (cases_eq k p.first)))
-      (cases_eq k p.second)
 
   -- a class of the pair
   with_credit_is : (p : PairRow) → Sound p → (c : ℕ) → c < class_count → of_pair p c ≡ true → step (leftovers (left_of cs₀) ps) p c ≡ towards (leftovers (left_of cs₀) ps c) (match_of (leftovers (left_of cs₀) ps) p) →
@@ -149,7 +125,7 @@ module _ (cs₀ : List ClassMargin) (ps : List PairRow) (cs : List ClassMargin) 
       let first : of_pair p p.first ≡ true = or_left (eqb p.first p.first) (eqb p.first p.second) (eq-eqb p.first p.first refl) in
       let second : of_pair p p.second ≡ true = or_right (eqb p.second p.first) (eqb p.second p.second) (eq-eqb p.second p.second refl) in
       ap (λ (xs : List ClassMargin). get_or xs c none) e
-      ∙ places p (with_credit (part p cs) (rounded.credit p.crt (part p cs)) (get_or cs p.first none)) (with_credit (part p cs) (rounded.credit p.crt (part p cs)) (get_or cs p.second none))
+      ∙ two_places none cs p.first p.second (with_credit (part p cs) (rounded.credit p.crt (part p cs)) (get_or cs p.first none)) (with_credit (part p cs) (rounded.credit p.crt (part p cs)) (get_or cs p.second none))
       (omega (arith, s.one)) (omega (arith, s.other)) s.apart
       (λ (k : ℕ) (w : ClassMargin). w ≡ walked (get_or cs₀ k none) (leftovers f (ps ++ p ∷ []) k) (credits rounded f (ps ++ p ∷ []) k))
       (with_credit_is p s p.first s.one first (step_first (leftovers f ps) p s.apart))
@@ -169,18 +145,8 @@ front_more xs m i x e h =
     ∙ sym (append_assoc xs (x ∷ []) (drop (suc i) m))
     ∙ ap (λ k. (xs ++ x ∷ []) ++ drop k m) (sym (add-one i))
 
-pub taken_count : (f : ℕ → ℤ) (ps : List PairRow) (i : ℕ) → i ≤ length ps → length (told_by f (take i ps)) ≡ i
-taken_count f ps i h = told_length f (take i ps) ∙ length-take-le i ps h
-
-pub front_sound : (ps : List PairRow) (i : ℕ) → Every Sound ps → Every Sound (take i ps)
-front_sound ps i h = every_take Sound ps i h
-
 -- ---- how many pairs pass a test
 
-pub count_push : (t : PairRow → Bool) (ps : List PairRow) (p : PairRow) → count_pairs t (ps ++ p ∷ []) ≡ count_pairs t ps + cond (t p) 1 0
-count_push t [] p = omega arith
-count_push t (q ∷ ps) p = omega (arith, count_push t ps p)
-
-pub count_length : (t : PairRow → Bool) (ps : List PairRow) → count_pairs t ps ≤ length ps
-count_length t [] = omega arith
-count_length t (q ∷ ps) = omega (arith, count_length t ps, one_within (t q))
+pub count_is : (t : PairRow → Bool) (ps : List PairRow) → count_by t ps ≡ count_pairs t ps
+count_is t [] = refl
+count_is t (p ∷ ps) = sum_by-cons (λ q. cond (t q) 1 0) p ps ∙ ap (λ (n : ℕ). cond (t p) 1 0 + n) (count_is t ps)

@@ -1,20 +1,19 @@
 -- The class records as the steps of a deposit leave them. Assumes nothing.
-use Rattle.std.specs.Prelude.{◌≡◌, ℕ, ◌+◌, ◌-◌, ◌^◌, ◌<◌, ◌≤◌, min, Bool, ◌&&◌, get_or, ℤ, pos, ◌-ℤ◌, nat_lt, slice_index_or, slice_set, unsigned_abs}
+use Rattle.std.specs.Prelude.{◌≡◌, ℕ, ◌+◌, ◌-◌, ◌^◌, ◌<◌, ◌≤◌, min, Bool, ◌&&◌, get_or, ℤ, pos, ◌-ℤ◌, Option, nat_lt, slice_index_or, slice_set, unsigned_abs}
 use mathlib.Core.List as L
 use Rattle.terms.specs.Limits.{security_count, class_count, whole}
 use Rattle.rules.specs.declared.rows.PairRow.{PairRow}
 use Rattle.rules.specs.Laws.{deposit_limit}
 use Rattle.rules.specs.Rows.{Rows}
 use Rattle.rules.specs.Margin.{rounded, matched, towards}
-use Rattle.sheets.specs.declared.reading.Rates.{Rates}
-use Rattle.sheets.specs.Readings.{rates_in}
+use Rattle.sheets.specs.Readings.{Figures, rates_in}
 use Rattle.positions.specs.declared.position.Position.{Position}
 use Rattle.positions.specs.Values.{zl, bought_in, sold_in, count_in_lem}
 use Rattle.deposits.specs.declared.records.ClassMargin.{ClassMargin}
 use Rattle.deposits.specs.Told.{gr, none}
 
 -- a class before any pair is served, by its rates, its two sums and whether it is held
-abbrev pub opened_by : Rates → ℕ → ℕ → Bool → ClassMargin
+abbrev pub opened_by : Figures → ℕ → ℕ → Bool → ClassMargin
 opened_by rates pk ps held = record {
   bought = zl pk;
   sold = zl ps;
@@ -27,7 +26,7 @@ opened_by rates pk ps held = record {
   dolr = gr 0;
 }
 
-abbrev pub opened : Rows → L.List Position → ℕ → ClassMargin
+abbrev pub opened : Rows → L.List (Option Position) → ℕ → ClassMargin
 opened rows all c = opened_by (rates_in (rows.classes c)) (bought_in all c security_count) (sold_in all c security_count) (nat_lt 0 (count_in_lem all c security_count))
 
 -- ---- the walk over the pairs
@@ -74,6 +73,12 @@ pub record Sound (p : PairRow) : Type 0 where
 -- a class whose figures leave room for credits
 abbrev pub Roomy : ClassMargin → Type 0
 Roomy w = (unsigned_abs w.leftover ≤ 2 ^ 62) × (w.kspk.grosz ≤ 2 ^ 62)
+
+-- a pair that can be served: it is sound, and its two classes leave room
+pub record Servable (p : PairRow) (cs : L.List ClassMargin) : Type 0 where
+  pub sound : Sound p
+  pub first : Roomy (slice_index_or cs p.first none)
+  pub second : Roomy (slice_index_or cs p.second none)
 
 -- ---- what a class owes
 

@@ -11,11 +11,10 @@ use Rattle.deposits.specs.declared.records.Match.{Match}
 use Rattle.deposits.specs.Told.{none, told_by}
 use Rattle.deposits.specs.Records.{left_of, walked}
 
--- From the records cs and the list l to ds and m: each class has its leftover and its credits, no place past the classes changes,
--- and the list has one match a pair at the front of its memory.
+-- From the records cs and the list l to ds and m: each class has its leftover and its credits, and the list has one match a pair at
+-- the front of its memory.
 pub record Walked (ps : L.List PairRow) (cs : L.List ClassMargin) (l : List Match) (ds : L.List ClassMargin) (m : List Match) : Type 0 where
   pub walked : (c : ℕ) → c < class_count → slice_index_or ds c none ≡ walked (slice_index_or cs c none) (leftovers (left_of cs) ps c) (credits rounded (left_of cs) ps c)
-  pub past : drop class_count ds ≡ drop class_count cs
   pub lender : lender m ≡ lender l
   pub items : items m ≡ told_by (left_of cs) ps
   pub memory : memory m ≡ told_by (left_of cs) ps ++ drop (length ps) (memory l)

@@ -1,5 +1,5 @@
 // The deposit of a portfolio.
-ghost use Rattle.std.specs.Prelude.{◌≡◌, ◌≤◌, ◌&&◌, length, nat_le};
+ghost use Rattle.std.specs.Prelude.{◌≡◌, ◌≤◌, length};
 ghost use Rattle.deposits.specs.Deposits.{Deposits, Settles, Upholds};
 ghost use Rattle.lists.specs.Lists.{lender, memory};
 ghost use Rattle.terms.specs.Limits.{class_count, pair_limit};
@@ -24,22 +24,15 @@ const TOO_FEW_PLACES: Fault = Fault {
     place: 0,
 };
 
-// Whether there is room for the answer.
-fn has_room(classes: &[ClassMargin], matches: &List<'_, Match>) -> bool
-    ensures { result ≡ (nat_le class_count (length classes.now) && nat_le pair_limit (length (memory matches.now))) }
-{
-    classes.len() >= CLASSES && matches.room() >= PAIRS
-}
-
 // The deposit where there is room for the answer: what is left to ask is put to each held security.
 fn settle<P: Positions, S: Sheet>(
     book: &P,
     sheet: &S,
-    classes: &mut [ClassMargin],
+    classes: &mut [ClassMargin; CLASSES],
     matches: &mut List<'_, Match>,
 ) -> Result<Summary, Fault>
-    requires places { class_count ≤ length classes.old }
-    requires room { pair_limit ≤ length (memory matches.old) }
+    requires { pair_limit ≤ length (memory matches.old) }
+    ensures wide { length classes.new ≡ class_count }
     ensures lender { lender matches.new ≡ lender matches.old }
     ensures settles { Settles (S.Sheet.rows sheet.now) (P.Positions.nets book.now) classes.old matches.old classes.new matches.new result }
     ensures upholds { Upholds (S.Sheet.rows sheet.now) (P.Positions.nets book.now) classes.new matches.new result }
@@ -53,6 +46,9 @@ fn settle<P: Positions, S: Sheet>(
 
 // The deposit of the portfolio in `book`, by the rates of `sheet`: one record a class in the first places of `classes`,
 // and one match a pair in `matches`, which is cleared first. Nothing is written before the last question is answered.
+// Kept: a rule of the project: class results are a borrowed slice and matches a list, two memories that are handed in.
+// Kept: a book and a sheet are what a deposit is of, each of a type of its own; a struct of the two would be taken apart at once.
+#[tactic(auto, using(crate::proofs::Placing::deposits_placed))]
 pub fn deposit<P: Positions, S: Sheet>(
     book: &P,
     sheet: &S,
@@ -63,8 +59,11 @@ pub fn deposit<P: Positions, S: Sheet>(
     ensures deposits { Deposits (S.Sheet.rows sheet.now) (P.Positions.nets book.now) classes.old matches.old classes.new matches.new result }
     ensures upholds { Upholds (S.Sheet.rows sheet.now) (P.Positions.nets book.now) classes.new matches.new result }
 {
-    if !has_room(classes, matches) {
+    if matches.room() < PAIRS {
         return Err(TOO_FEW_PLACES);
     }
-    settle(book, sheet, classes, matches)
+    let Some(places) = classes.first_chunk_mut::<CLASSES>() else {
+        return Err(TOO_FEW_PLACES);
+    };
+    settle(book, sheet, places, matches)
 }

@@ -2,6 +2,8 @@
 use terms::money::{Grosz, Zloty};
 
 // Of one class: its sums PK and PS and its leftover in zloty units, whether it is held, and its parts.
+// Kept: a rule of the project: a class's figures are PK, PS, leftover, held, DRR, DRS, DSWK, KSPK and DOLR, and all of them are
+// defined where it is not held.
 #[derive(Clone, Copy)]
 pub struct ClassMargin {
     pub bought: Zloty,
@@ -49,6 +51,7 @@ impl Match {
 }
 
 // Of a portfolio: DSPAN, and how many classes (C), securities (N) and pairs (R) are held.
+// Kept: a rule of the project: the summary is DSPAN, C, N and R.
 #[derive(Clone, Copy)]
 pub struct Summary {
     pub dspan: Grosz,

@@ -1,5 +1,5 @@
 // What each class owes, and the figures of the whole portfolio.
-ghost use Rattle.std.specs.Prelude.{◌≡◌, ℕ, ◌<◌, ◌≤◌, length, get_or, drop, if◌then◌else◌, slice_index_or};
+ghost use Rattle.std.specs.Prelude.{◌≡◌, ℕ, ◌<◌, ◌≤◌, get_or, slice_index_or};
 ghost use Rattle.deposits.specs.Records.{Owing, both_flagged, closed, held_flag};
 ghost use Rattle.deposits.specs.Told.{none};
 ghost use Rattle.positions.specs.Portfolios.{positions_of};
@@ -11,7 +11,7 @@ ghost use Rattle.terms.specs.Limits.{class_count, security_count};
 
 use crate::records::{ClassMargin, Summary};
 use positions::portfolio::Portfolio;
-use rules::rows::PairRow;
+use sheets::pairs::pairs_of;
 use sheets::sheet::Sheet;
 use terms::limits::CLASSES;
 use terms::money::Grosz;
@@ -25,76 +25,57 @@ fn close(class: &mut ClassMargin)
 }
 
 // What each class owes.
-pub(crate) fn close_classes(classes: &mut [ClassMargin])
-    requires room { class_count ≤ length classes.old }
-    requires owing { (c : ℕ) → c < class_count → Owing (slice_index_or classes.old c none) }
-    ensures closed { (c : ℕ) → c < class_count → slice_index_or classes.new c none ≡ closed (slice_index_or classes.old c none) }
-    ensures past { drop class_count classes.new ≡ drop class_count classes.old }
+pub(crate) fn close_classes(classes: &mut [ClassMargin; CLASSES])
+    requires { (c : ℕ) → c < class_count → Owing (slice_index_or classes.old c none) }
+    ensures { (c : ℕ) → c < class_count → slice_index_or classes.new c none ≡ closed (slice_index_or classes.old c none) }
 {
-    for class in 0..CLASSES {
-        close(&mut classes[class]);
+    for class in classes.iter_mut() {
+        close(class);
     }
 }
 
 // What all classes owe.
-fn total(classes: &[ClassMargin]) -> Grosz
-    requires room { class_count ≤ length classes.now }
-    requires small { (c : ℕ) → c < class_count → (get_or classes.now c none).dolr.grosz ≤ deposit_limit }
+fn total(classes: &[ClassMargin; CLASSES]) -> Grosz
+    requires { (c : ℕ) → c < class_count → (get_or classes.now c none).dolr.grosz ≤ deposit_limit }
     ensures { result.grosz ≡ sum_below class_count (λ c. (get_or classes.now c none).dolr.grosz) }
 {
     let mut total = Grosz::ZERO;
-    for class in 0..CLASSES {
-        total += classes[class].dolr;
+    for class in classes {
+        total += class.dolr;
     }
     total
 }
 
-// 1 for yes, 0 for no.
-fn one_if(yes: bool) -> u8
-    ensures { result ≡ (if yes then 1 else 0) }
-{
-    if yes { 1 } else { 0 }
-}
-
 // How many classes are held, C.
-fn held_classes(classes: &[ClassMargin]) -> u8
-    requires { class_count ≤ length classes.now }
+fn held_classes(classes: &[ClassMargin; CLASSES]) -> u8
     ensures { result ≡ count_below class_count (held_flag classes.now) }
 {
-    let mut count: u8 = 0;
-    for class in 0..CLASSES {
-        count += one_if(classes[class].held);
-    }
-    count
+    classes.iter().filter(|class| class.held).count() as u8
 }
 
-// Whether both classes of a pair are held.
-fn is_held(classes: &[ClassMargin], pair: PairRow) -> bool
-    requires first { pair.first < length classes.now }
-    requires second { pair.second < length classes.now }
-    ensures { result ≡ both_flagged classes.now pair }
+// Whether a class is held.
+fn is_held(classes: &[ClassMargin; CLASSES], class: u16) -> bool
+    ensures { result ≡ held_flag classes.now class }
 {
-    classes[pair.first as usize].held && classes[pair.second as usize].held
+    classes.get(class as usize).is_some_and(|class| class.held)
 }
 
 // How many pairs of the sheet have both classes held, R.
-fn held_pairs<S: Sheet>(sheet: &S, classes: &[ClassMargin]) -> u8
-    requires { class_count ≤ length classes.now }
+fn held_pairs<S: Sheet>(sheet: &S, classes: &[ClassMargin; CLASSES]) -> u8
     ensures { result ≡ count_pairs (both_flagged classes.now) (S.Sheet.rows sheet.now).pairs }
 {
-    let mut count: u8 = 0;
-    let mut place: usize = 0;
-    while let Some(pair) = sheet.pair(place) {
-        count += one_if(is_held(classes, pair));
-        place += 1;
-    }
-    count
+    pairs_of(sheet)
+        .filter(|pair| is_held(classes, pair.first) && is_held(classes, pair.second))
+        .count() as u8
 }
 
 // DSPAN, C, N and R.
-pub(crate) fn sum_up<S: Sheet>(sheet: &S, portfolio: &Portfolio, classes: &[ClassMargin]) -> Summary
-    requires room { class_count ≤ length classes.now }
-    requires small { (c : ℕ) → c < class_count → (get_or classes.now c none).dolr.grosz ≤ deposit_limit }
+pub(crate) fn sum_up<S: Sheet>(
+    sheet: &S,
+    portfolio: &Portfolio,
+    classes: &[ClassMargin; CLASSES],
+) -> Summary
+    requires { (c : ℕ) → c < class_count → (get_or classes.now c none).dolr.grosz ≤ deposit_limit }
     ensures dspan { result.dspan.grosz ≡ sum_below class_count (λ c. (get_or classes.now c none).dolr.grosz) }
     ensures classes { result.classes ≡ count_below class_count (held_flag classes.now) }
     ensures securities { result.securities ≡ count_all_lem (positions_of portfolio.now) security_count }

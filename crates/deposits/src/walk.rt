@@ -1,6 +1,6 @@
 // The walk over the pairs, in place over the class records.
-ghost use Rattle.std.specs.Prelude.{◌≡◌, ℕ, ◌^◌, ◌<◌, ◌≤◌, [], length, get_or, slice_index_or, slice_set, unsigned_abs};
-ghost use Rattle.deposits.specs.Records.{Roomy, Sound, left_of, part, served, with_credit};
+ghost use Rattle.std.specs.Prelude.{◌≡◌, ℕ, ◌^◌, ◌<◌, ◌≤◌, length, get_or, unsigned_abs};
+ghost use Rattle.deposits.specs.Records.{Roomy, Servable, left_of, part, served, with_credit};
 ghost use Rattle.deposits.specs.Told.{match_record, none};
 ghost use Rattle.deposits.specs.Walks.{Walked};
 ghost use Rattle.lists.specs.Lists.{Appended, items, lender, memory};
@@ -11,18 +11,19 @@ use crate::records::{ClassMargin, Match};
 use lists::list::List;
 use rules::leftover::{matched_part, moved_towards_zero};
 use rules::rows::PairRow;
+use sheets::pairs::pairs_of;
 use sheets::sheet::Sheet;
+use terms::limits::CLASSES;
 use terms::money::{Grosz, Zloty};
 
-// Takes an amount of the class at `at` as matched, for a credit.
-fn add_credit(classes: &mut [ClassMargin], at: usize, amount: Zloty, credit: Grosz)
-    requires within { at < length classes.old }
-    requires roomy { Roomy (slice_index_or classes.old at none) }
+// Takes an amount of a class as matched, for a credit.
+fn add_credit(class: &mut ClassMargin, amount: Zloty, credit: Grosz)
+    requires roomy { Roomy class.old }
     requires small { credit.grosz ≤ 2 ^ 62 }
-    ensures { classes.new ≡ slice_set classes.old at (with_credit amount.units credit.grosz (slice_index_or classes.old at none)) }
+    ensures { class.new ≡ with_credit amount.units credit.grosz class.old }
 {
-    classes[at].leftover = moved_towards_zero(classes[at].leftover, amount);
-    classes[at].kspk += credit;
+    class.leftover = moved_towards_zero(class.leftover, amount);
+    class.kspk += credit;
 }
 
 // The credit of a pair for an amount that it matches.
@@ -34,11 +35,8 @@ fn credit_of(pair: PairRow, amount: Zloty) -> Grosz
 }
 
 // Serves one pair, and answers how much it matches.
-fn serve(classes: &mut [ClassMargin], pair: PairRow) -> Zloty
-    requires places { class_count ≤ length classes.old }
-    requires sound { Sound pair }
-    requires first { Roomy (slice_index_or classes.old pair.first none) }
-    requires second { Roomy (slice_index_or classes.old pair.second none) }
+fn serve(classes: &mut [ClassMargin; CLASSES], pair: PairRow) -> Zloty
+    requires { Servable pair classes.old }
     ensures matched { result.units ≡ part pair classes.old }
     ensures classes { classes.new ≡ served pair classes.old }
 {
@@ -46,29 +44,28 @@ fn serve(classes: &mut [ClassMargin], pair: PairRow) -> Zloty
     let second = pair.second as usize;
     let amount = matched_part(classes[first].leftover, classes[second].leftover);
     let credit = credit_of(pair, amount);
-    add_credit(classes, first, amount, credit);
-    add_credit(classes, second, amount, credit);
+    add_credit(&mut classes[first], amount, credit);
+    add_credit(&mut classes[second], amount, credit);
     amount
 }
 
 // One match more, in a list that has a place for it.
+// Kept: a rule of the project: public calls ask nothing of their callers, so that lists cannot offer this for any kind of record.
 fn tell(matches: &mut List<'_, Match>, told: Match)
     requires { length (items matches.old) < length (memory matches.old) }
     ensures lender { lender matches.new ≡ lender matches.old }
     ensures told { Appended told matches.old matches.new }
 {
-    match matches.append(told) {
-        Ok(()) => {}
-        Err(_) => unreachable(),
-    }
+    matches.append(told).unwrap();
 }
 
 // Serves one pair, and lists how much it matches.
-fn serve_and_tell(classes: &mut [ClassMargin], matches: &mut List<'_, Match>, pair: PairRow)
-    requires places { class_count ≤ length classes.old }
-    requires sound { Sound pair }
-    requires first { Roomy (slice_index_or classes.old pair.first none) }
-    requires second { Roomy (slice_index_or classes.old pair.second none) }
+fn serve_and_tell(
+    classes: &mut [ClassMargin; CLASSES],
+    matches: &mut List<'_, Match>,
+    pair: PairRow,
+)
+    requires servable { Servable pair classes.old }
     requires room { length (items matches.old) < length (memory matches.old) }
     ensures classes { classes.new ≡ served pair classes.old }
     ensures lender { lender matches.new ≡ lender matches.old }
@@ -85,30 +82,19 @@ fn serve_and_tell(classes: &mut [ClassMargin], matches: &mut List<'_, Match>, pa
     );
 }
 
-// Serves the pairs of the sheet in their order, each once, and lists how much they match in a list that is empty.
-fn walk_pairs<S: Sheet>(sheet: &S, classes: &mut [ClassMargin], matches: &mut List<'_, Match>)
-    requires places { class_count ≤ length classes.old }
-    requires room { pair_limit ≤ length (memory matches.old) }
-    requires empty { items matches.old ≡ [] }
-    requires fresh { (c : ℕ) → c < class_count → (get_or classes.old c none).kspk.grosz ≡ 0 }
-    requires small { (c : ℕ) → c < class_count → unsigned_abs (left_of classes.old c) ≤ 2 ^ 62 }
-    ensures { Walked (S.Sheet.rows sheet.now).pairs classes.old matches.old classes.new matches.new }
-{
-    let mut place: usize = 0;
-    while let Some(pair) = sheet.pair(place) {
-        serve_and_tell(classes, matches, pair);
-        place += 1;
-    }
-}
-
 // Serves the pairs of the sheet in their order, each once; the list then tells how much they match, and nothing else.
-pub(crate) fn walk<S: Sheet>(sheet: &S, classes: &mut [ClassMargin], matches: &mut List<'_, Match>)
-    requires places { class_count ≤ length classes.old }
+pub(crate) fn walk<S: Sheet>(
+    sheet: &S,
+    classes: &mut [ClassMargin; CLASSES],
+    matches: &mut List<'_, Match>,
+)
     requires room { pair_limit ≤ length (memory matches.old) }
     requires fresh { (c : ℕ) → c < class_count → (get_or classes.old c none).kspk.grosz ≡ 0 }
     requires small { (c : ℕ) → c < class_count → unsigned_abs (left_of classes.old c) ≤ 2 ^ 62 }
     ensures { Walked (S.Sheet.rows sheet.now).pairs classes.old matches.old classes.new matches.new }
 {
     matches.clear();
-    walk_pairs(sheet, classes, matches);
+    for pair in pairs_of(sheet) {
+        serve_and_tell(classes, matches, pair);
+    }
 }

@@ -4,7 +4,7 @@ use Rattle.terms.specs.declared.choice.ClassKind.{ClassKind}
 use Rattle.terms.specs.declared.choice.ClassKind.TheVariants.{Liquidity, Duration}
 use Rattle.terms.specs.declared.choice.Side.{Side}
 use Rattle.terms.specs.declared.choice.Side.TheVariants.{Bought, Sold}
-use Rattle.frames.specs.Choices.{class_kind_byte_lem, side_byte_lem}
+use Rattle.terms.specs.Choices.{class_kind_byte, side_byte, signed}
 use Rattle.frames.specs.Fields.{numbers_of, text_of}
 use Rattle.frames.specs.Kinds.{class_kind, security_kind, pair_kind, booking_kind}
 use Rattle.frames.specs.Records.{class_figures, security_figures, pair_figures, booking_figures}
@@ -13,13 +13,13 @@ use Rattle.frames.specs.declared.record.ClassRecord.{ClassRecord}
 use Rattle.frames.specs.declared.record.PairRecord.{PairRecord}
 use Rattle.frames.specs.declared.record.SecurityRecord.{SecurityRecord}
 use Rattle.frames.specs.Texts.{numbers_text}
-use Rattle.entries.specs.Entries.{of_class, kind_named, side_named, signed, listed_class, quantity_of}
+use Rattle.entries.specs.Entries.{of_class, kind_named, side_named, listed_class, quantity_of}
 
-pub kind_back : (kind : ClassKind) → kind_named (class_kind_byte_lem kind) ≡ kind
+pub kind_back : (kind : ClassKind) → kind_named (class_kind_byte kind) ≡ kind
 kind_back Liquidity = refl
 kind_back Duration = refl
 
-pub side_back : (side : Side) → side_named (side_byte_lem side) ≡ side
+pub side_back : (side : Side) → side_named (side_byte side) ≡ side
 side_back Bought = refl
 side_back Sold = refl
 

@@ -3,9 +3,10 @@ use Rattle.std.proofs.Common.{◌≡◌, ℕ, ◌-◌, List, get_or, ℤ, Some, 
 use Rattle.std.specs.Result.{result_err}
 use Rattle.terms.specs.declared.fault.Fault.{Fault}
 use Rattle.terms.specs.declared.layer.Layer.{Layer}
-use Rattle.terms.specs.declared.layer.Layer.TheVariants.{Frame, Sheet, Book}
+use Rattle.terms.specs.declared.layer.Layer.TheVariants.{Sheet, Book}
 use Rattle.terms.specs.declared.refusal.Refusal.{Refusal}
 use Rattle.terms.specs.Questions.{answer, fault_of}
+use Rattle.terms.specs.Choices.{signed}
 use Rattle.frames.specs.Fields.{numbers_of, text_of}
 use Rattle.frames.specs.Kinds.{class_kind, security_kind, pair_kind, booking_kind}
 use Rattle.frames.specs.Records.{class_figures, security_figures, pair_figures, booking_figures}
@@ -19,7 +20,7 @@ use Rattle.books.specs.Books.{Books, no_more}
 use Rattle.sheets.specs.Drafts.{Takes, TakesClass, TakesSecurity, TakesPair}
 use Rattle.sheets.specs.Sheets.{draft_rows}
 use Rattle.sheets.specs.declared.draft.Draft.{Draft}
-use Rattle.entries.specs.Entries.{of_class, of_security, of_pair, signed, listed_class, listed_security, listed_pair, quantity_of}
+use Rattle.entries.specs.Entries.{of_class, of_security, of_pair, listed_class, listed_security, listed_pair, quantity_of}
 use Rattle.entries.proofs.Bringing.{class_numbers, security_numbers, pair_numbers, booking_numbers, class_listed, booking_quantity}
 use Rattle.entries.specs.Intakes.{Moves, Adds, Posts, table_nets, table_left}
 
@@ -87,8 +88,3 @@ booking_posts fields before result after x is security quantity same_security sa
     (subst (λ s. Posts s (quantity_of (booking_figures x)) before result after) same_security
     (subst (λ q. Posts security q before result after) (same_quantity ∙ booking_quantity x)
     (booking_moves before security quantity result after books)))
-
--- fields that pass their questions are read
-pub never_refused : {P : Type 0} (questions : Option Refusal) (f : Fault) → Some f ≡ fault_of Frame 0 questions → questions ≡ None → P
-never_refused None f e h = let z : ◌≡◌ {A = ℕ} 0 1 = cc in absurd (omega arith)
-never_refused (Some refusal) f e h = let z : ◌≡◌ {A = ℕ} 0 1 = cc in absurd (omega arith)

@@ -42,14 +42,6 @@ module _ (line : List ℕ) (at : ℕ) (frame other : FrameLine) (framed : Framed
 
 -- ---- what an intake does with it
 
--- a line that is no frame is refused
-pub line_refused : (i : Intake) (line : List ℕ) (f : Fault) → Some f ≡ fault_of Frame 0 (line_refusal all_kinds line) → (result : Result (Unit {0}) Fault) → result ≡ Err f → TakesLine i line result i
-line_refused i line f is result err = subst (λ r. TakesLine i line r i) (sym err) (record {
-  decided = ap (λ o. or_else o (entry_fault (desk_of i) (entry_of line))) is;
-  refused = λ no. refl;
-  moved = λ ok. absurd (let z : ◌≡◌ {A = ℕ} 0 1 = cc in omega arith);
-})
-
 module _ (i : Intake) (line : List ℕ) (passes : line_refusal all_kinds line ≡ None) where
   abbrev d : Desk
   d = desk_of i
@@ -89,11 +81,3 @@ module _ (i : Intake) (line : List ℕ) (passes : line_refusal all_kinds line �
       refused = λ no. ap (λ x. record { stage = i.stage; draft = i.draft; book = x }) (posts.refused refl);
       moved = λ ok. absurd (let z : ◌≡◌ {A = ℕ} 0 1 = cc in omega arith);
     })
-
-  -- and a frame of another kind to neither
-  pub other_refused : entry_of line ≡ None → TakesLine i line (Err out_of_order) i
-  other_refused is = record {
-    decided = sym (brings None is);
-    refused = λ no. refl;
-    moved = λ ok. absurd (let z : ◌≡◌ {A = ℕ} 0 1 = cc in omega arith);
-  }

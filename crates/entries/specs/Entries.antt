@@ -1,10 +1,10 @@
 -- What a line of a text brings: the row of a class, of a security or of a pair, or a booking. Assumes nothing.
-use Rattle.std.specs.Prelude.{ℕ, cond, List, take, drop, ℤ, pos, neg_ℤ, Some, None, Option, ◌==◌, slice_index}
+use Rattle.std.specs.Prelude.{ℕ, cond, List, take, drop, ℤ, Some, None, Option, ◌==◌, slice_index}
 use Rattle.terms.specs.declared.choice.ClassKind.{ClassKind}
 use Rattle.terms.specs.declared.choice.ClassKind.TheVariants.{Liquidity, Duration}
 use Rattle.terms.specs.declared.choice.Side.{Side}
 use Rattle.terms.specs.declared.choice.Side.TheVariants.{Bought, Sold}
-use Rattle.frames.specs.Choices.{class_kind_byte_lem, side_byte_lem}
+use Rattle.terms.specs.Choices.{class_kind_byte, side_byte, signed}
 use Rattle.frames.specs.Fields.{numbers_of}
 use Rattle.frames.specs.Hex.{number_of}
 use Rattle.frames.specs.Kinds.{class_kind, security_kind, pair_kind, booking_kind}
@@ -25,15 +25,10 @@ pub data Entry : Type 0 where
 -- ---- what the figures of a frame mean, field by field
 
 abbrev pub kind_named : ℕ → ClassKind
-kind_named byte = cond (byte == class_kind_byte_lem Liquidity) Liquidity Duration
+kind_named byte = cond (byte == class_kind_byte Liquidity) Liquidity Duration
 
 abbrev pub side_named : ℕ → Side
-side_named byte = cond (byte == side_byte_lem Bought) Bought Sold
-
--- bought quantities are positive, sold ones negative
-abbrev pub signed : Side → ℕ → ℤ
-signed Bought quantity = pos quantity
-signed Sold quantity = neg_ℤ (pos quantity)
+side_named byte = cond (byte == side_byte Bought) Bought Sold
 
 abbrev pub class_row : List ℕ → ClassRow
 class_row n = record { kind = kind_named (slice_index n 1); y = slice_index n 2; x = slice_index n 3; dep = slice_index n 4 }

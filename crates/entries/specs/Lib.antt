@@ -1,3 +1,4 @@
 pub mod Entries
 pub mod Desks
 pub mod Intakes
+pub mod Reading

@@ -1,5 +1,5 @@
 // What the fields of a frame bring, taken by a draft or a book.
-ghost use Rattle.entries.specs.Entries.{listed_class, listed_pair, listed_security, quantity_of, signed};
+ghost use Rattle.entries.specs.Entries.{listed_class, listed_pair, listed_security, quantity_of};
 ghost use Rattle.entries.specs.Intakes.{Adds, Posts};
 ghost use Rattle.frames.specs.Fields.{numbers_of};
 ghost use Rattle.frames.specs.Frames.{digits_refusal};
@@ -7,25 +7,17 @@ ghost use Rattle.frames.specs.Kinds.{booking_kind, class_kind, pair_kind, securi
 ghost use Rattle.std.specs.Prelude.{◌≡◌, None as Nothing, slice_index};
 
 use books::book::Book;
+use books::booking::Booking;
 use books::table::NetTable;
 use frames::codec::read_fields;
 use frames::kinds::{BookingFrame, ClassFrame, PairFrame, SecurityFrame};
 use rules::rows::{ClassRow, PairRow, SecurityRow};
 use sheets::draft::Draft;
-use terms::choice::Side;
 use terms::fault::Fault;
 
-// Bought quantities are positive, sold ones negative.
-fn signed_by(side: Side, quantity: u32) -> i64
-    ensures { result ≡ signed side quantity }
-{
-    match side {
-        Side::Bought => i64::from(quantity),
-        Side::Sold => -i64::from(quantity),
-    }
-}
-
 // Adds the class row with these fields.
+// Kept: record and row are of other crates, so a From would need a type around one; a trait over add_class, add_security and
+// add_pair is no plainer: three impls with a definition each, for three bodies of a literal and a call.
 pub(crate) fn add_class(draft: &mut Draft, fields: &[u8]) -> Result<(), Fault>
     requires { digits_refusal class_kind fields.now ≡ Nothing }
     ensures { Adds (listed_class (numbers_of class_kind.widths fields.now)) draft.old result draft.new }
@@ -70,13 +62,14 @@ pub(crate) fn add_pair(draft: &mut Draft, fields: &[u8]) -> Result<(), Fault>
 }
 
 // Books the quantity of these fields, signed by their side.
+// Kept: record and booking are of other crates, so a From would need a type around one.
 pub(crate) fn book(table: &mut NetTable, fields: &[u8]) -> Result<(), Fault>
     requires { digits_refusal booking_kind fields.now ≡ Nothing }
     ensures { Posts (slice_index (numbers_of booking_kind.widths fields.now) 0) (quantity_of (numbers_of booking_kind.widths fields.now)) table.old result table.new }
 {
     let item = read_fields::<BookingFrame>(fields)?;
-    table.book(
-        u16::from(item.security),
-        signed_by(item.side, item.quantity),
-    )
+    table.book(Booking {
+        security: u16::from(item.security),
+        quantity: item.side.signed(item.quantity),
+    })
 }

@@ -13,6 +13,7 @@ use terms::layer::Layer;
 use terms::refusal::Refusal;
 
 // The rows of the sheet come first, then the bookings.
+// Kept: a rule of the project: the intake matches on its stage and the kind of line at once, so a stage is no type of its own.
 #[derive(Clone, Copy)]
 pub enum Stage {
     Rows,
@@ -57,7 +58,7 @@ impl Intake {
     pub fn take(&mut self, line: Part<'_>) -> Result<(), Fault>
         ensures { TakesLine self.old line.entry.digits.now result self.new }
     {
-        let frame = FrameLine::of_line(line)?;
+        let frame = FrameLine::try_from(line)?;
         match (&mut self.stage, frame) {
             (stage, FrameLine::Booking(part)) => {
                 book(&mut self.book, part.digits)?;

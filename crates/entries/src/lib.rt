@@ -3,3 +3,5 @@
 
 mod fields;
 pub mod intake;
+pub mod line_fault;
+pub mod text;

@@ -5,6 +5,7 @@ use Rattle.std.proofs.lemmas.List.{get_or-set_same, get_or-set_other}
 use Rattle.std.proofs.lemmas.Bool.{cases_eq, eq-eqb, ne_eqb, cond-true, cond-false}
 use Rattle.terms.specs.Limits.{security_count, class_count}
 use Rattle.terms.specs.declared.choice.ClassKind.{ClassKind}
+use Rattle.rules.specs.declared.position.PricedSecurity.{PricedSecurity}
 use Rattle.rules.specs.declared.rows.ClassRow.{ClassRow}
 use Rattle.rules.specs.declared.rows.SecurityRow.{SecurityRow}
 use Rattle.rules.specs.Rows.{Rows, Lawful, LawfulClass, Present}
@@ -25,16 +26,16 @@ pub record Priced (rows : Rows) (o : Option SecurityRow) (r : SecurityRow) (k : 
   pub listed : rows.classes r.class ≡ Some class
   pub kind : class.kind ≡ k
 
-priced_case : (rows : Rows) (q : SecurityRow) (o : Option ClassRow) → rows.classes q.class ≡ o → (r : SecurityRow) (k : ClassKind) → beside q o ≡ Some (r, k) → Priced rows (Some q) r k
-priced_case rows q (Some class) h r k e =
-    let both : ◌≡◌ {A = SecurityRow × ClassKind} (q, class.kind) (r, k) = cc in
-    let same : q ≡ r = ap (λ (p : SecurityRow × ClassKind). p.0) both in
-    record { row = ap Some same; class = class; listed = subst (λ (p : SecurityRow). rows.classes p.class ≡ Some class) same h; kind = ap (λ (p : SecurityRow × ClassKind). p.1) both }
-priced_case rows q None h r k e = absurd (let z : ◌≡◌ {A = ℕ} 0 1 = cc in omega arith)
+priced_case : (rows : Rows) (q : SecurityRow) (o : Option ClassRow) → rows.classes q.class ≡ o → (p : PricedSecurity) → beside q o ≡ Some p → Priced rows (Some q) p.row p.kind
+priced_case rows q (Some class) h p e =
+    let both : ◌≡◌ {A = PricedSecurity} (record { row = q; kind = class.kind }) p = cc in
+    let same : q ≡ p.row = ap (λ (x : PricedSecurity). x.row) both in
+    record { row = ap Some same; class = class; listed = subst (λ (r : SecurityRow). rows.classes r.class ≡ Some class) same h; kind = ap (λ (x : PricedSecurity). x.kind) both }
+priced_case rows q None h p e = absurd (let z : ◌≡◌ {A = ℕ} 0 1 = cc in omega arith)
 
-pub priced : (rows : Rows) (o : Option SecurityRow) (r : SecurityRow) (k : ClassKind) → with_kind rows o ≡ Some (r, k) → Priced rows o r k
-priced rows (Some q) r k e = priced_case rows q (rows.classes q.class) refl r k e
-priced rows None r k e = absurd (let z : ◌≡◌ {A = ℕ} 0 1 = cc in omega arith)
+pub priced : (rows : Rows) (o : Option SecurityRow) (p : PricedSecurity) → with_kind rows o ≡ Some p → Priced rows o p.row p.kind
+priced rows (Some q) p e = priced_case rows q (rows.classes q.class) refl p e
+priced rows None p e = absurd (let z : ◌≡◌ {A = ℕ} 0 1 = cc in omega arith)
 
 pub unlisted : (o : Option SecurityRow) → is_some o ≡ false → o ≡ None
 unlisted (Some r) e = absurd (let z : ◌≡◌ {A = ℕ} 0 1 = cc in omega arith)

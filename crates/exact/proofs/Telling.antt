@@ -9,11 +9,11 @@ use Rattle.rules.proofs.Walk.{Below, Agree, credits_agree, every_map}
 use Rattle.sheets.specs.Readings.{rates_in}
 use Rattle.positions.specs.Questions.{portfolio_fault}
 use Rattle.deposits.proofs.Walking.{sounds}
-use Rattle.exact.specs.declared.records.Left.{Left}
+use Rattle.exact.specs.declared.records.Class.{Class}
 use Rattle.exact.specs.declared.records.Sums.{Sums}
-use Rattle.exact.specs.Sizes.{worths_limit, part_limit}
-use Rattle.exact.specs.Classes.{none, nothing, sums_to, Summed, opened, left_of, Walked}
-use Rattle.exact.specs.Owed.{owed_by, owed_in}
+use Rattle.exact.specs.Sizes.{worths_limit, owed_limit}
+use Rattle.exact.specs.Classes.{none, nothing, sums_to, Summed, risk_by, opened, left_of, Walked}
+use Rattle.exact.specs.Owed.{Small, owed_in}
 use Rattle.exact.proofs.Small.{sums_small}
 use Rattle.exact.proofs.Walking.{roomy_walked}
 
@@ -38,27 +38,28 @@ module _ (rows : Rows) (lawful : Lawful rows) (nets : ℕ → ℤ) (pass : portf
   small c l =
       subst (λ (s : Sums). s.bought + s.sold ≤ worths_limit) (sym (h.each c l)) (sums_small rows lawful nets pass security_count (omega arith) c)
 
-  module _ (ls : List Left) (o : (c : ℕ) → c < class_count → get_or ls c none ≡ opened (get_or xs c nothing)) where
-    pub fresh : (c : ℕ) → c < class_count → (get_or ls c none).credits ≡ 0
-    fresh c l = ap (λ (w : Left). w.credits) (o c l)
-
-    pub left_small : (c : ℕ) → c < class_count → nat_abs (left_of ls c) ≤ worths_limit
+  module _ (cs : List Class) (o : (c : ℕ) → c < class_count → get_or cs c none ≡ opened (rates_in (rows.classes c)) (get_or xs c nothing)) where
+    pub left_small : (c : ℕ) → c < class_count → nat_abs (left_of cs c) ≤ worths_limit
     left_small c l =
         let s : Sums = get_or xs c nothing in
-        omega (arith, small c l, ap (λ (w : Left). nat_abs w.leftover) (o c l), abs_minus s.bought s.sold)
+        omega (arith, small c l, ap (λ (w : Class). nat_abs w.leftover) (o c l), abs_minus s.bought s.sold)
 
-    starts : Agree class_count (left_of ls) (net_value exact rows nets)
-    starts c l = ap (λ (w : Left). w.leftover) (o c l) ∙ ap (λ (s : Sums). pos s.bought -ℤ pos s.sold) (sums_are c l)
+    starts : Agree class_count (left_of cs) (net_value exact rows nets)
+    starts c l = ap (λ (w : Class). w.leftover) (o c l) ∙ ap (λ (s : Sums). pos s.bought -ℤ pos s.sold) (sums_are c l)
 
-    module _ (ws : List Left) (w : Walked (left_of ls) rows.pairs ws) where
-      pub capped : (c : ℕ) → c < class_count → (get_or ws c none).credits ≤ part_limit
-      capped c l = (roomy_walked (left_of ls) rows.pairs ws w (sounds rows lawful) left_small c l).1
+    module _ (ws : List Class) (w : Walked cs rows.pairs ws) where
+      pub small_walked : ((c : ℕ) → c < class_count → (get_or cs c none).risk ≤ owed_limit) → (c : ℕ) → c < class_count → Small (get_or ws c none)
+      small_walked h c l =
+          (omega (arith, h c l, ap (λ (x : Class). x.risk) (w c l)), (roomy_walked cs rows.pairs ws w (sounds rows lawful) left_small c l).1)
 
       credits_are : (c : ℕ) → c < class_count → (get_or ws c none).credits ≡ KSPK exact rows nets c
-      credits_are c l = ap (λ (x : Left). x.credits) (w c l) ∙ credits_agree class_count exact (left_of ls) (net_value exact rows nets) rows.pairs (below rows lawful) starts c
+      credits_are c l = ap (λ (x : Class). x.credits) (w c l) ∙ credits_agree class_count exact (left_of cs) (net_value exact rows nets) rows.pairs (below rows lawful) starts c
 
-      owed_is : (c : ℕ) → c < class_count → owed_in rows xs ws c ≡ DOLR exact rows nets c
-      owed_is c l = ap₂ (owed_by (rates_in (rows.classes c))) (sums_are c l) (credits_are c l)
+      risk_is : (c : ℕ) → c < class_count → (get_or ws c none).risk ≡ risk_by (rates_in (rows.classes c)) (record { bought = bought exact rows nets c; sold = sold exact rows nets c })
+      risk_is c l = ap (λ (x : Class). x.risk) (w c l) ∙ ap (λ (x : Class). x.risk) (o c l) ∙ ap (risk_by (rates_in (rows.classes c))) (sums_are c l)
 
-      pub total_is : sum_belowℤ class_count (owed_in rows xs ws) ≡ DSPAN exact rows nets
-      total_is = sumℤ_same class_count (owed_in rows xs ws) (DOLR exact rows nets) owed_is
+      owed_is : (c : ℕ) → c < class_count → owed_in ws c ≡ DOLR exact rows nets c
+      owed_is c l = ap₂ (λ (r k : ℕ). pos r -ℤ pos k) (risk_is c l) (credits_are c l)
+
+      pub total_is : sum_belowℤ class_count (owed_in ws) ≡ DSPAN exact rows nets
+      total_is = sumℤ_same class_count (owed_in ws) (DOLR exact rows nets) owed_is

@@ -1,5 +1,5 @@
 -- The sums, leftovers and credits of the classes, as the steps of the exact margin leave them. Assumes nothing.
-use Rattle.std.specs.Prelude.{◌≡◌, ℕ, ◌+◌, ◌<◌, ◌≤◌, cond, List, length, get_or, ℤ, pos, ◌-ℤ◌, slice_index_or, slice_set, unsigned_abs}
+use Rattle.std.specs.Prelude.{◌≡◌, ℕ, ◌+◌, ◌<◌, ◌≤◌, min, cond, List, length, ℤ, pos, ◌-ℤ◌, slice_index_or, slice_set, unsigned_abs}
 use borrow.Author.Differences.{up, down}
 use Rattle.terms.specs.Limits.{class_count}
 use Rattle.terms.specs.declared.choice.ClassKind.{ClassKind}
@@ -8,7 +8,9 @@ use Rattle.rules.specs.declared.rows.SecurityRow.{SecurityRow}
 use Rattle.rules.specs.Sums.{sum_below}
 use Rattle.rules.specs.Rows.{Rows}
 use Rattle.rules.specs.Margin.{exact, factor, in_class, worth, matched, towards, leftovers, credits}
-use Rattle.exact.specs.declared.records.Left.{Left}
+use Rattle.sheets.specs.Readings.{Figures}
+use Rattle.deposits.specs.Records.{Sound}
+use Rattle.exact.specs.declared.records.Class.{Class}
 use Rattle.exact.specs.declared.records.Sums.{Sums}
 use Rattle.exact.specs.Sizes.{worths_limit, part_limit}
 
@@ -44,36 +46,53 @@ pub record Summed (rows : Rows) (nets : ℕ → ℤ) (n : ℕ) (xs : List Sums) 
 
 -- ---- what is left, and the credits
 
--- nothing is left, and nothing credited
-abbrev pub none : Left
-none = record { leftover = pos 0; credits = 0 }
+-- y of |PK − PS|, x of PK + PS, and dep of the smaller
+abbrev pub risk_by : Figures → Sums → ℕ
+risk_by rates s =
+    exact.part rates.y (unsigned_abs (pos s.bought -ℤ pos s.sold))
+    + exact.part rates.x (s.bought + s.sold)
+    + exact.part rates.dep (min s.bought s.sold)
 
--- the whole net value of a class, with no credit
-abbrev pub opened : Sums → Left
-opened s = record { leftover = pos s.bought -ℤ pos s.sold; credits = 0 }
+-- nothing is owed, left or credited
+abbrev pub none : Class
+none = record { risk = 0; leftover = pos 0; credits = 0 }
 
-abbrev pub left_of : List Left → ℕ → ℤ
-left_of ls c = (get_or ls c none).leftover
+-- a class before any pair is served: its whole net value is left, with no credit
+abbrev pub opened : Figures → Sums → Class
+opened rates s = record { risk = risk_by rates s; leftover = pos s.bought -ℤ pos s.sold; credits = 0 }
+
+abbrev pub left_of : List Class → ℕ → ℤ
+left_of cs c = (slice_index_or cs c none).leftover
+
+-- a class with another leftover and other credits
+abbrev pub walked : Class → ℤ → ℕ → Class
+walked w left credits = record { risk = w.risk; leftover = left; credits = credits }
 
 -- a class of which m is matched, for a credit
-abbrev pub with_credit : ℕ → ℕ → Left → Left
-with_credit m credit w = record { leftover = towards w.leftover m; credits = w.credits + credit }
+abbrev pub with_credit : ℕ → ℕ → Class → Class
+with_credit m credit w = walked w (towards w.leftover m) (w.credits + credit)
 
 -- what a pair matches
-abbrev pub part : PairRow → List Left → ℕ
-part p ls = matched (left_of ls p.first) (left_of ls p.second)
+abbrev pub part : PairRow → List Class → ℕ
+part p cs = matched (left_of cs p.first) (left_of cs p.second)
 
 -- the classes once a pair is served: two of them change
-abbrev pub served : PairRow → List Left → List Left
-served p ls =
-    let m = part p ls in
+abbrev pub served : PairRow → List Class → List Class
+served p cs =
+    let m = part p cs in
     let credit = exact.credit p.crt m in
-    slice_set (slice_set ls p.first (with_credit m credit (slice_index_or ls p.first none))) p.second (with_credit m credit (slice_index_or ls p.second none))
+    slice_set (slice_set cs p.first (with_credit m credit (slice_index_or cs p.first none))) p.second (with_credit m credit (slice_index_or cs p.second none))
 
 -- a class whose figures leave room for credits
-abbrev pub Roomy : Left → Type 0
+abbrev pub Roomy : Class → Type 0
 Roomy w = (unsigned_abs w.leftover ≤ worths_limit) × (w.credits ≤ part_limit)
 
--- each class has its leftover and its credits, after the walk over the pairs from these leftovers
-abbrev pub Walked : (ℕ → ℤ) → List PairRow → List Left → Type 0
-Walked f ps ls = (c : ℕ) → c < class_count → slice_index_or ls c none ≡ record { leftover = leftovers f ps c; credits = credits exact f ps c }
+-- a pair that can be served: it is sound, and its two classes leave room
+pub record Servable (p : PairRow) (cs : List Class) : Type 0 where
+  pub sound : Sound p
+  pub first : Roomy (slice_index_or cs p.first none)
+  pub second : Roomy (slice_index_or cs p.second none)
+
+-- from cs to ds: each class has its leftover and its credits, after the walk over the pairs
+abbrev pub Walked : List Class → List PairRow → List Class → Type 0
+Walked cs ps ds = (c : ℕ) → c < class_count → slice_index_or ds c none ≡ walked (slice_index_or cs c none) (leftovers (left_of cs) ps c) (credits exact (left_of cs) ps c)

@@ -1,23 +1,16 @@
--- What a class owes, by its rates, its sums and its credits. Assumes nothing.
-use Rattle.std.specs.Prelude.{ℕ, ◌+◌, min, List, get_or, ℤ, pos, ◌-ℤ◌, slice_index_or, unsigned_abs}
-use Rattle.rules.specs.Rows.{Rows}
-use Rattle.rules.specs.Margin.{exact}
-use Rattle.sheets.specs.declared.reading.Rates.{Rates}
-use Rattle.sheets.specs.Readings.{rates_in}
-use Rattle.exact.specs.declared.records.Left.{Left}
-use Rattle.exact.specs.declared.records.Sums.{Sums}
-use Rattle.exact.specs.Classes.{none, nothing}
+-- What a class owes: its parts less its credits. Assumes nothing.
+use Rattle.std.specs.Prelude.{ℕ, ◌≤◌, List, ℤ, pos, ◌-ℤ◌, slice_index_or}
+use Rattle.exact.specs.declared.records.Class.{Class}
+use Rattle.exact.specs.Classes.{none}
+use Rattle.exact.specs.Sizes.{owed_limit, part_limit}
 
--- y of |PK − PS|, x of PK + PS, and dep of the smaller
-abbrev pub risk_by : Rates → Sums → ℕ
-risk_by rates s =
-    exact.part rates.y (unsigned_abs (pos s.bought -ℤ pos s.sold))
-    + exact.part rates.x (s.bought + s.sold)
-    + exact.part rates.dep (min s.bought s.sold)
-
-abbrev pub owed_by : Rates → Sums → ℕ → ℤ
-owed_by rates s credits = pos (risk_by rates s) -ℤ pos credits
+abbrev pub owed_by : Class → ℤ
+owed_by w = pos w.risk -ℤ pos w.credits
 
 -- of each class
-abbrev pub owed_in : Rows → List Sums → List Left → ℕ → ℤ
-owed_in rows xs ls c = owed_by (rates_in (rows.classes c)) (slice_index_or xs c nothing) (get_or ls c none).credits
+abbrev pub owed_in : List Class → ℕ → ℤ
+owed_in cs c = owed_by (slice_index_or cs c none)
+
+-- a class whose parts and credits fit
+abbrev pub Small : Class → Type 0
+Small w = (w.risk ≤ owed_limit) × (w.credits ≤ part_limit)

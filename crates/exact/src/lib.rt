@@ -2,6 +2,8 @@
 #![tactic(auto)]
 
 pub mod margin;
+pub(crate) mod open;
+pub(crate) mod percentage;
 pub(crate) mod records;
 pub(crate) mod sums;
 pub(crate) mod total;

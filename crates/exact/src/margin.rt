@@ -4,9 +4,10 @@ ghost use Rattle.positions.specs.Questions.{portfolio_fault};
 ghost use Rattle.rules.specs.Margin.{DSPAN, exact};
 ghost use Rattle.std.specs.Prelude.{◌≡◌, None};
 
+use crate::open::open_classes;
 use crate::sums::class_sums;
 use crate::total::total;
-use crate::walk::{net_values, walk};
+use crate::walk::walk;
 use books::book::Positions;
 use positions::portfolio::Portfolio;
 use sheets::sheet::Sheet;
@@ -17,10 +18,9 @@ fn settle<P: Positions, S: Sheet>(book: &P, sheet: &S) -> i128
     requires { portfolio_fault (S.Sheet.rows sheet.now) (P.Positions.nets book.now) ≡ None }
     ensures { result ≡ DSPAN exact (S.Sheet.rows sheet.now) (P.Positions.nets book.now) }
 {
-    let sums = class_sums(book, sheet);
-    let mut lefts = net_values(&sums);
-    walk(sheet, &mut lefts);
-    total(sheet, &sums, &lefts)
+    let mut classes = open_classes(sheet, &class_sums(book, sheet));
+    walk(sheet, &mut classes);
+    total(&classes)
 }
 
 // The exact margin of the portfolio in `book`, by the rates of `sheet`, in 10^-19 zloty: the steps of the deposit with no rounding.

@@ -12,16 +12,19 @@ impl Sums {
     pub(crate) const NONE: Sums = Sums { bought: 0, sold: 0 };
 }
 
-// What no pair has matched, in 10^-14 zloty, bought positive, and the credits for what is matched, in 10^-19 zloty.
+// Its three parts together and the credits for what is matched, in 10^-19 zloty, and between them what no pair has matched,
+// in 10^-14 zloty, bought positive.
 #[derive(Clone, Copy)]
-pub(crate) struct Left {
+pub(crate) struct Class {
+    pub(crate) risk: u128,
     pub(crate) leftover: i128,
     pub(crate) credits: u128,
 }
 
-impl Left {
-    // Nothing is left, and nothing credited.
-    pub(crate) const NONE: Left = Left {
+impl Class {
+    // Nothing is owed, left or credited.
+    pub(crate) const NONE: Class = Class {
+        risk: 0,
         leftover: 0,
         credits: 0,
     };

@@ -1,5 +1,5 @@
 // The exact sums of the classes.
-ghost use Rattle.std.specs.Prelude.{◌≡◌, ◌+◌, ◌<◌, ◌≤◌, None};
+ghost use Rattle.std.specs.Prelude.{◌≡◌, ◌+◌, ◌≤◌, None};
 ghost use Rattle.exact.specs.Classes.{Summed, plus};
 ghost use Rattle.exact.specs.Sizes.{worths_limit};
 ghost use Rattle.positions.specs.Questions.{portfolio_fault};
@@ -22,27 +22,20 @@ fn add_worth(sums: &mut Sums, position: Sums)
     sums.sold += position.sold;
 }
 
-// Adds the position in a security to the sums, once those before it are there.
-fn add_position<P: Positions, S: Sheet>(sums: &mut [Sums], book: &P, sheet: &S, security: u16)
-    requires listed { security < security_count }
-    requires asked { portfolio_fault (S.Sheet.rows sheet.now) (P.Positions.nets book.now) ≡ None }
-    requires before { Summed (S.Sheet.rows sheet.now) (P.Positions.nets book.now) security sums.old }
-    ensures { Summed (S.Sheet.rows sheet.now) (P.Positions.nets book.now) (security + 1) sums.new }
-{
-    if let Some((row, kind)) = priced_security(sheet, security) {
-        let position = worth(net_of(book, security), row, kind);
-        add_worth(&mut sums[row.class as usize], position);
-    }
-}
-
 // The sums of all classes: each security is valued once.
+// Kept: a deposit keeps each position, whose sums and counts it tells, here only the sums are kept; a trait over both would need
+// a law for each of value, sum and bound a type, for bodies of a few lines.
 pub(crate) fn class_sums<P: Positions, S: Sheet>(book: &P, sheet: &S) -> [Sums; CLASSES]
     requires { portfolio_fault (S.Sheet.rows sheet.now) (P.Positions.nets book.now) ≡ None }
     ensures { Summed (S.Sheet.rows sheet.now) (P.Positions.nets book.now) security_count result }
 {
     let mut sums = [Sums::NONE; CLASSES];
+    // Kept: the loop goes over security numbers, by which book and sheet are asked, and indexes nothing by them.
     for security in 0..SECURITIES as u16 {
-        add_position(&mut sums, book, sheet, security);
+        if let Some(priced) = priced_security(sheet, security) {
+            let position = worth(net_of(book, security), priced);
+            add_worth(&mut sums[priced.row.class as usize], position);
+        }
     }
     sums
 }

@@ -3,24 +3,10 @@ ghost use Rattle.std.specs.Prelude.{◌≡◌, ◌*◌, ◌≤◌, unsigned_abs}
 ghost use Rattle.exact.specs.Classes.{worth_at};
 ghost use Rattle.exact.specs.Sizes.{product_limit};
 ghost use Rattle.rules.specs.Margin.{exact};
-ghost use borrow.Author.Differences.{up, down};
 
 use crate::records::Sums;
-use rules::position::counted_duration;
+use rules::position::{PricedSecurity, counted_duration};
 use rules::rows::SecurityRow;
-use terms::choice::ClassKind;
-
-// The units bought and the units sold at a net: one of the two is 0.
-fn sides(net: i64) -> (u64, u64)
-    ensures bought { result.0 ≡ up net }
-    ensures sold { result.1 ≡ down net }
-{
-    if net < 0 {
-        (0, net.unsigned_abs())
-    } else {
-        (net.unsigned_abs(), 0)
-    }
-}
 
 // The value of so many units of a security that counts with this duration, in 10^-14 zloty.
 fn value(units: u64, row: SecurityRow, duration: u32) -> u128
@@ -30,15 +16,25 @@ fn value(units: u64, row: SecurityRow, duration: u32) -> u128
     units as u128 * row.price as u128 * row.rate as u128 * duration as u128
 }
 
-// What a net quantity of a security is worth in a class of this kind, as bought and as sold.
-pub(crate) fn worth(net: i64, row: SecurityRow, kind: ClassKind) -> Sums
-    requires { unsigned_abs net * row.price * row.rate ≤ product_limit }
-    ensures { result ≡ worth_at net row kind }
+// What a net quantity of a security is worth, as bought and as sold.
+// Kept: a deposit rounds what a position is worth and refuses what is too large, here neither is done; a trait over both would
+// need a law for the value and the bound of each type, for bodies of a few lines.
+pub(crate) fn worth(net: i64, security: PricedSecurity) -> Sums
+    requires { unsigned_abs net * security.row.price * security.row.rate ≤ product_limit }
+    ensures { result ≡ worth_at net security.row security.kind }
 {
-    let (bought, sold) = sides(net);
+    let PricedSecurity { row, kind } = security;
     let duration = counted_duration(kind, row.duration);
-    Sums {
-        bought: value(bought, row, duration),
-        sold: value(sold, row, duration),
+    let value = value(net.unsigned_abs(), row, duration);
+    if net < 0 {
+        Sums {
+            bought: 0,
+            sold: value,
+        }
+    } else {
+        Sums {
+            bought: value,
+            sold: 0,
+        }
     }
 }

@@ -27,21 +27,17 @@ mod tests {
         let Some(front) = memory.get(0..count) else {
             return false;
         };
-        match front.split_last() {
-            Some((feed, text)) => *feed == b'\n' && text == line,
-            None => false,
-        }
+        front
+            .split_last()
+            .is_some_and(|(feed, text)| *feed == b'\n' && text == line)
     }
 
-    // The number of the refusal of a line, 0 where it reads.
-    fn refused<F: Frame>(line: &[u8]) -> u8
+    // The number of the refusal of a line; none where it reads.
+    fn refused<F: Frame>(line: &[u8]) -> Option<u8>
     where
         F::Record: Drop,
     {
-        match read::<F>(line) {
-            Ok(_) => 0,
-            Err(fault) => fault.refusal.number(),
-        }
+        read::<F>(line).err().map(|fault| u8::from(fault.refusal))
     }
 
     // The seven lines of the example of two bonds.
@@ -104,17 +100,34 @@ mod tests {
 
     #[test]
     fn damaged(rt: HostRuntime) {
-        assert_eq!(rt; refused::<BookingFrame>(b"420001000003E8"), 0);
-        assert_eq!(rt; refused::<BookingFrame>(b""), 30);
-        assert_eq!(rt; refused::<BookingFrame>(b"420001000003e8"), 30);
-        assert_eq!(rt; refused::<BookingFrame>(b"420001000003E"), 30);
-        assert_eq!(rt; refused::<BookingFrame>(b"4"), 30);
-        assert_eq!(rt; refused::<BookingFrame>(b"990001000003E8"), 31);
-        assert_eq!(rt; refused::<BookingFrame>(b"43"), 31);
-        assert_eq!(rt; refused::<BookingFrame>(b"42"), 32);
-        assert_eq!(rt; refused::<BookingFrame>(b"420003000003E800"), 32);
-        assert_eq!(rt; refused::<BookingFrame>(b"420003000003E8"), 33);
-        assert_eq!(rt; refused::<ClassFrame>(b"43020000014A000050000118"), 33);
+        assert_eq!(rt; refused::<BookingFrame>(b"420001000003E8"), None);
+        assert_eq!(rt; refused::<BookingFrame>(b""), Some(30));
+        assert_eq!(rt; refused::<BookingFrame>(b"420001000003e8"), Some(30));
+        assert_eq!(rt; refused::<BookingFrame>(b"420001000003E"), Some(30));
+        assert_eq!(rt; refused::<BookingFrame>(b"4"), Some(30));
+        assert_eq!(rt; refused::<BookingFrame>(b"990001000003E8"), Some(31));
+        assert_eq!(rt; refused::<BookingFrame>(b"43"), Some(31));
+        assert_eq!(rt; refused::<BookingFrame>(b"42"), Some(32));
+        assert_eq!(rt; refused::<BookingFrame>(b"420003000003E800"), Some(32));
+        assert_eq!(rt; refused::<BookingFrame>(b"420003000003E8"), Some(33));
+        assert_eq!(rt;
+            refused::<ClassFrame>(b"43020000014A000050000118"),
+            Some(33)
+        );
+    }
+
+    // A fault in words.
+    #[test]
+    fn told(rt: HostRuntime) -> Result<(), Fail> {
+        let Err(fault) = read::<BookingFrame>(b"420003000003E8") else {
+            return Err(Fail::new("read"));
+        };
+        let text = format!(in rt.alloc(); "{fault}")?;
+        assert_eq!(rt;
+            text.as_str(),
+            "the side or the kind of class is neither 01 nor 02 (refusal 33, frame, place 0)"
+        );
+        Ok(())
     }
 
     // The memory has to hold the feed too; a refused write leaves it as it was.
@@ -128,7 +141,7 @@ mod tests {
         let mut memory = [b'.'; 16];
         match write::<BookingFrame>(&item, &mut memory[0..14]) {
             Ok(_) => return Err(Fail::new("written")),
-            Err(fault) => assert_eq!(rt; fault.refusal.number(), 34),
+            Err(fault) => assert_eq!(rt; u8::from(fault.refusal), 34),
         }
         assert!(rt; memory == *b"................");
         assert_eq!(rt; write::<BookingFrame>(&item, &mut memory)?, 15);

@@ -1,7 +1,8 @@
 -- Hexadecimal text: the digits 0-9 and A-F, upper case only, by their codes, and the numbers that they write.
 -- Assumes nothing.
-use Rattle.std.specs.Prelude.{ℕ, zero, suc, ◌+◌, ◌-◌, ◌/◌, ◌%◌, Bool, true, cond, ◌&&◌, List, [], ◌∷◌, ◌++◌, map, nat_le, nat_lt}
+use Rattle.std.specs.Prelude.{ℕ, zero, suc, ◌+◌, ◌-◌, ◌/◌, ◌%◌, Bool, cond, ◌&&◌, List, [], ◌∷◌, ◌++◌, map, nat_le, nat_lt}
 use Rattle.std.specs.Int.Digits.{number_from_digits}
+use Rattle.std.specs.List.{list_all}
 
 -- the code of the digit whose value is v, for v below 16
 abbrev pub digit_of : ℕ → ℕ
@@ -16,8 +17,7 @@ is_digit c = nat_lt (value_of c) 16
 
 -- every code of the text is a digit
 abbrev pub are_digits : List ℕ → Bool
-are_digits [] = true
-are_digits (c ∷ cs) = is_digit c && are_digits cs
+are_digits = list_all is_digit
 
 -- the number that the digits of a text write, high digit first
 abbrev pub number_of : List ℕ → ℕ

@@ -13,7 +13,8 @@ use Rattle.frames.specs.declared.record.FaultRecord.{FaultRecord}
 use Rattle.frames.specs.declared.record.PairRecord.{PairRecord}
 use Rattle.frames.specs.declared.record.SecurityRecord.{SecurityRecord}
 use Rattle.frames.specs.declared.record.TotalRecord.{TotalRecord}
-use Rattle.frames.specs.Choices.{class_kind_byte_lem, side_byte_lem, is_choice}
+use Rattle.terms.specs.Choices.{class_kind_byte, side_byte}
+use Rattle.frames.specs.Choices.{is_choice}
 use Rattle.frames.specs.Fields.{carries}
 use Rattle.frames.specs.Frames.{choice_lawful}
 use Rattle.frames.specs.Kinds.{class_kind, security_kind, pair_kind, booking_kind, deposit_kind, total_kind, fault_kind}
@@ -35,18 +36,18 @@ module _ {C : Type 0} (byte : C → ℕ) (one two : C) (is_one : byte one ≡ 1)
 abbrev class_kind_at : ℕ → ClassKind
 class_kind_at n = cond (n == 1) Liquidity Duration
 
-class_kind_made : (n : ℕ) → is_choice n ≡ true → class_kind_byte_lem (class_kind_at n) ≡ n
-class_kind_made n h = chosen_made class_kind_byte_lem Liquidity Duration refl refl n h
+class_kind_made : (n : ℕ) → is_choice n ≡ true → class_kind_byte (class_kind_at n) ≡ n
+class_kind_made n h = chosen_made class_kind_byte Liquidity Duration refl refl n h
 
 abbrev side_at : ℕ → Side
 side_at n = cond (n == 1) Bought Sold
 
-side_made : (n : ℕ) → is_choice n ≡ true → side_byte_lem (side_at n) ≡ n
-side_made n h = chosen_made side_byte_lem Bought Sold refl refl n h
+side_made : (n : ℕ) → is_choice n ≡ true → side_byte (side_at n) ≡ n
+side_made n h = chosen_made side_byte Bought Sold refl refl n h
 
 pub class_made : (numbers : List ℕ) → carries class_kind.widths numbers ≡ true → choice_lawful class_kind numbers ≡ true → (x : ClassRecord) × (class_figures x ≡ numbers)
 class_made numbers h lawful =
-    let is : slice_index_or numbers 0 0 ∷ class_kind_byte_lem (class_kind_at (slice_index numbers 1)) ∷ slice_index numbers 2 ∷ slice_index numbers 3 ∷ slice_index numbers 4 ∷ [] ≡ numbers =
+    let is : slice_index_or numbers 0 0 ∷ class_kind_byte (class_kind_at (slice_index numbers 1)) ∷ slice_index numbers 2 ∷ slice_index numbers 3 ∷ slice_index numbers 4 ∷ [] ≡ numbers =
     ap (λ n. slice_index numbers 0 ∷ n ∷ slice_index numbers 2 ∷ slice_index numbers 3 ∷ slice_index numbers 4 ∷ []) (class_kind_made (slice_index numbers 1) lawful) ∙ spelled 5 numbers (sym (same_count class_kind.widths numbers h)) in (
       record {
         class = slice_index numbers 0;
@@ -87,7 +88,7 @@ pair_made numbers h lawful =
 
 pub booking_made : (numbers : List ℕ) → carries booking_kind.widths numbers ≡ true → choice_lawful booking_kind numbers ≡ true → (x : BookingRecord) × (booking_figures x ≡ numbers)
 booking_made numbers h lawful =
-    let is : slice_index_or numbers 0 0 ∷ side_byte_lem (side_at (slice_index numbers 1)) ∷ slice_index numbers 2 ∷ [] ≡ numbers =
+    let is : slice_index_or numbers 0 0 ∷ side_byte (side_at (slice_index numbers 1)) ∷ slice_index numbers 2 ∷ [] ≡ numbers =
     ap (λ n. slice_index numbers 0 ∷ n ∷ slice_index numbers 2 ∷ []) (side_made (slice_index numbers 1) lawful) ∙ spelled 3 numbers (sym (same_count booking_kind.widths numbers h)) in (
       record {
         security = slice_index numbers 0;

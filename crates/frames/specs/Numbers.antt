@@ -92,10 +92,6 @@ digits_of_number text h =
     (length_digits_of (length text) (number_of text))
     (number_digits_of (length text) (number_of text) (number_below text h))
 
--- the test of what is left of a text, one code on
-pub digits_next : (text : List ℕ) (i : ℕ) → i < length text → are_digits (drop i text) ≡ (is_digit (slice_index text i) && are_digits (drop (i + 1) text))
-digits_next text i h = ap are_digits (drop_more text i 0 h)
-
 -- a number of sixteen digits at most fits 64 bits while it is read
 pub number_room : (text : List ℕ) (i : ℕ) → Hex text → length text ≤ 16 → i < length text → number_of (take i text) * 16 + 16 ≤ 2 ^ 64
 number_room text i h few lt =
@@ -104,6 +100,14 @@ number_room text i h few lt =
     let low : i ≤ 15 = omega arith in
     let power : 16 ^ i ≤ 16 ^ 15 = pow-le-pow_right {n = 16} (omega arith) low in
     omega arith
+
+-- every code of a text of digits has a value below 16
+pub digit_small : (text : List ℕ) (i : ℕ) → Hex text → i < length text → value_of (slice_index text i) < 16
+digit_small text i h lt = All-get_or (λ c. value_of c < 16) text i 0 lt h
+
+-- the test of what is left of a text, one code on
+pub digits_next : (text : List ℕ) (i : ℕ) → i < length text → are_digits (drop i text) ≡ (is_digit (slice_index text i) && are_digits (drop (i + 1) text))
+digits_next text i h = ap are_digits (drop_more text i 0 h)
 
 -- one digit is written, before those that are
 pub write_next : (field : List ℕ) (i rest d : ℕ) (whole : List ℕ) → i < length field → d ≡ digit_of (rest % 16) → digits_of (suc i) rest ++ drop (i + 1) field ≡ whole → digits_of i (rest / 16) ++ drop i (slice_set field i d) ≡ whole

@@ -7,10 +7,10 @@ use Rattle.frames.specs.declared.record.FaultRecord.{FaultRecord}
 use Rattle.frames.specs.declared.record.PairRecord.{PairRecord}
 use Rattle.frames.specs.declared.record.SecurityRecord.{SecurityRecord}
 use Rattle.frames.specs.declared.record.TotalRecord.{TotalRecord}
-use Rattle.frames.specs.Choices.{class_kind_byte_lem, side_byte_lem}
+use Rattle.terms.specs.Choices.{class_kind_byte, side_byte}
 
 abbrev pub class_figures : ClassRecord → List ℕ
-class_figures r = r.class ∷ class_kind_byte_lem r.kind ∷ r.y ∷ r.x ∷ r.dep ∷ []
+class_figures r = r.class ∷ class_kind_byte r.kind ∷ r.y ∷ r.x ∷ r.dep ∷ []
 
 abbrev pub security_figures : SecurityRecord → List ℕ
 security_figures r = r.security ∷ r.class ∷ r.price ∷ r.rate ∷ r.duration ∷ []
@@ -19,7 +19,7 @@ abbrev pub pair_figures : PairRecord → List ℕ
 pair_figures r = r.first ∷ r.second ∷ r.crt ∷ []
 
 abbrev pub booking_figures : BookingRecord → List ℕ
-booking_figures r = r.security ∷ side_byte_lem r.side ∷ r.quantity ∷ []
+booking_figures r = r.security ∷ side_byte r.side ∷ r.quantity ∷ []
 
 abbrev pub deposit_figures : DepositRecord → List ℕ
 deposit_figures r = r.class ∷ r.drr ∷ r.drs ∷ r.dswk ∷ r.kspk ∷ r.dolr ∷ []

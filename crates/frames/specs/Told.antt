@@ -14,18 +14,18 @@ use Rattle.frames.specs.declared.record.FaultRecord.{FaultRecord}
 use Rattle.frames.specs.declared.record.PairRecord.{PairRecord}
 use Rattle.frames.specs.declared.record.SecurityRecord.{SecurityRecord}
 use Rattle.frames.specs.declared.record.TotalRecord.{TotalRecord}
-use Rattle.frames.specs.Choices.{class_kind_byte_lem, side_byte_lem}
+use Rattle.terms.specs.Choices.{class_kind_byte, side_byte}
 use Rattle.frames.specs.Fields.{carries}
 use Rattle.frames.specs.Kinds.{class_kind, security_kind, pair_kind, booking_kind, deposit_kind, total_kind, fault_kind}
 use Rattle.frames.specs.Records.{class_figures, security_figures, pair_figures, booking_figures, deposit_figures, total_figures, fault_figures}
 
-class_kind_told : (x y : ClassKind) → class_kind_byte_lem x ≡ class_kind_byte_lem y → x ≡ y
+class_kind_told : (x y : ClassKind) → class_kind_byte x ≡ class_kind_byte y → x ≡ y
 class_kind_told Liquidity Liquidity e = refl
 class_kind_told Liquidity Duration e = absurd (omega arith)
 class_kind_told Duration Liquidity e = absurd (omega arith)
 class_kind_told Duration Duration e = refl
 
-side_told : (x y : Side) → side_byte_lem x ≡ side_byte_lem y → x ≡ y
+side_told : (x y : Side) → side_byte x ≡ side_byte y → x ≡ y
 side_told Bought Bought e = refl
 side_told Bought Sold e = absurd (omega arith)
 side_told Sold Bought e = absurd (omega arith)
@@ -38,7 +38,7 @@ same_class x y a b c d e j = record {
   y = c j;
   x = d j;
   dep = e j;
-  carried = is_prop→PathP (λ k. carries class_kind.widths (a k ∷ class_kind_byte_lem (b k) ∷ c k ∷ d k ∷ e k ∷ []) ≡ true) (λ k. Bool-set _ _) x.carried y.carried j;
+  carried = is_prop→PathP (λ k. carries class_kind.widths (a k ∷ class_kind_byte (b k) ∷ c k ∷ d k ∷ e k ∷ []) ≡ true) (λ k. Bool-set _ _) x.carried y.carried j;
 }
 
 pub class_told : (x y : ClassRecord) → class_figures x ≡ class_figures y → x ≡ y
@@ -73,7 +73,7 @@ same_booking x y a b c j = record {
   security = a j;
   side = b j;
   quantity = c j;
-  carried = is_prop→PathP (λ k. carries booking_kind.widths (a k ∷ side_byte_lem (b k) ∷ c k ∷ []) ≡ true) (λ k. Bool-set _ _) x.carried y.carried j;
+  carried = is_prop→PathP (λ k. carries booking_kind.widths (a k ∷ side_byte (b k) ∷ c k ∷ []) ≡ true) (λ k. Bool-set _ _) x.carried y.carried j;
 }
 
 pub booking_told : (x y : BookingRecord) → booking_figures x ≡ booking_figures y → x ≡ y

@@ -1,5 +1,6 @@
 // Frames of every kind are read and written here, once.
-ghost use Rattle.std.specs.Prelude.{◌≡◌, ◌+◌, ◌*◌, ◌<◌, ◌≤◌, true, false, [], ◌∷◌, length, take, drop, MatchResult};
+ghost use Rattle.std.specs.Prelude.{◌≡◌, ◌+◌, ◌*◌, ◌<◌, ◌≤◌, true, false, [], ◌∷◌, length, take, drop, MatchOption, MatchResult, ◌≢◌};
+ghost use Rattle.std.specs.List.{AllByRecursion};
 ghost use Rattle.terms.specs.declared.layer.Layer.TheVariants.{Frame as InFrame};
 ghost use Rattle.terms.specs.declared.refusal.Refusal.TheVariants.{NotHexadecimal};
 ghost use Rattle.terms.specs.Questions.{answer};
@@ -9,37 +10,29 @@ ghost use Rattle.frames.specs.Frames.{Reads, digits_refusal, fields_refusal, fra
 ghost use Rattle.frames.specs.Hex.{are_digits, number_of};
 ghost use Rattle.frames.specs.Written.{written, written_answer};
 
-use crate::frame::{Figures, Frame, MOST_FIELDS};
+use crate::frame::{Frame, MOST_FIELDS};
 use crate::hex::{all_digits, byte, number, write_number};
+use arrayvec::ArrayVec;
+use std::convert::AsSlice;
 use terms::fault::Fault;
 use terms::layer::Layer;
 use terms::refusal::Refusal;
-
-// The fault of a line.
-fn fault(refusal: Refusal) -> Fault
-    ensures { result ≡ frame_fault refusal }
-{
-    Fault {
-        refusal,
-        layer: Layer::Frame,
-        place: 0,
-    }
-}
 
 // The kind byte of a hexadecimal line, and the digits of its fields.
 pub fn split(line: &[u8]) -> Result<(u8, &[u8]), Fault>
     ensures { MatchResult result (λ p. (hexadecimal line.now ≡ true) × (p.0 ≡ number_of (take 2 line.now)) × (p.1.now ≡ drop 2 line.now)) (λ f. (hexadecimal line.now ≡ false) × (f ≡ frame_fault NotHexadecimal)) }
 {
     if line.len() % 2 != 0 || !all_digits(line) {
-        return Err(fault(Refusal::NotHexadecimal));
+        return Err(Layer::Frame.fault(0, Refusal::NotHexadecimal));
     }
     let [high, low, fields @ ..] = line else {
-        return Err(fault(Refusal::NotHexadecimal));
+        return Err(Layer::Frame.fault(0, Refusal::NotHexadecimal));
     };
     Ok((byte(*high, *low) as u8, fields))
 }
 
 // Whether the second byte of these fields is one of the two choices.
+// Kept: both kinds of choice have the bytes 01 and 02, so that one question for both is plainer than a type for each.
 fn has_choice(fields: &[u8]) -> bool
     requires { 4 ≤ length fields.now }
     ensures { result ≡ is_choice (number_of (take 2 (drop 2 fields.now))) }
@@ -54,29 +47,42 @@ fn has_choice(fields: &[u8]) -> bool
 pub fn check<F: Frame>(fields: &[u8]) -> Result<(), Fault>
     ensures { result ≡ answer InFrame 0 tt (fields_refusal F.kind fields.now) }
 {
-    let shape = F::shape();
-    if fields.len() != shape.digits {
-        return Err(fault(Refusal::WrongLength));
+    if fields.len() != 2 * (F::LENGTH - 1) {
+        return Err(Layer::Frame.fault(0, Refusal::WrongLength));
     }
-    if shape.choice && !has_choice(fields) {
-        return Err(fault(Refusal::UnknownChoice));
+    if F::CHOICE && !has_choice(fields) {
+        return Err(Layer::Frame.fault(0, Refusal::UnknownChoice));
     }
     Ok(())
 }
 
-// Reads the number of each field into the first places of `numbers`.
-fn read_numbers<F: Frame>(fields: &[u8], numbers: &mut Figures)
+// The numbers of the fields of these widths.
+#[tactic(auto, using(crate::proofs::Framing::bytes_next, crate::proofs::Framing::digits_front, crate::proofs::Framing::digits_rest, crate::proofs::Framing::read_next))]
+fn read_numbers(widths: &[usize], fields: &[u8]) -> ArrayVec<u64, MOST_FIELDS>
+    requires few { length widths.now ≤ 8 }
+    requires narrow { AllByRecursion (λ w. w ≤ 8) widths.now }
+    requires digits { are_digits fields.now ≡ true }
+    requires size { length fields.now ≡ 2 * bytes widths.now }
+    ensures { result.items ≡ numbers_of widths.now fields.now }
+{
+    let mut numbers = ArrayVec::new();
+    let mut rest = fields;
+    for width in widths {
+        let (field, after) = rest.split_at(2 * *width);
+        numbers.push(number(field));
+        rest = after;
+    }
+    numbers
+}
+
+// The record whose fields these digits are, if there is one.
+fn record<F: Frame>(fields: &[u8]) -> Option<F::Record>
     requires digits { are_digits fields.now ≡ true }
     requires size { length fields.now ≡ 2 * bytes F.kind.widths }
-    ensures { take (length F.kind.widths) numbers.new ≡ numbers_of F.kind.widths fields.now }
+    ensures { MatchOption result ((x : F.Record) → F.figures x ≢ numbers_of F.kind.widths fields.now) (λ x. F.figures x ≡ numbers_of F.kind.widths fields.now) }
 {
-    let shape = F::shape();
-    let mut at = 0;
-    for place in 0..shape.fields {
-        let end = at + 2 * shape.widths[place];
-        numbers[place] = number(&fields[at..end]);
-        at = end;
-    }
+    let numbers = read_numbers(F::widths(), fields);
+    F::record_of(&numbers)
 }
 
 // The record whose fields these are.
@@ -84,16 +90,10 @@ pub fn read_fields<F: Frame>(fields: &[u8]) -> Result<F::Record, Fault>
     ensures { Reads (λ x. text_of F.kind.widths (F.figures x)) (digits_refusal F.kind fields.now) fields.now result }
 {
     if !all_digits(fields) {
-        return Err(fault(Refusal::NotHexadecimal));
+        return Err(Layer::Frame.fault(0, Refusal::NotHexadecimal));
     }
     check::<F>(fields)?;
-    let mut numbers = [0; MOST_FIELDS];
-    read_numbers::<F>(fields, &mut numbers);
-    let count = F::shape().fields;
-    match F::record_of(&numbers[0..count]) {
-        Some(found) => Ok(found),
-        None => unreachable(),
-    }
+    Ok(record::<F>(fields).unwrap())
 }
 
 // The record whose frame this line is. A reader of one kind knows no other.
@@ -101,24 +101,23 @@ pub fn read<F: Frame>(line: &[u8]) -> Result<F::Record, Fault>
     ensures { Reads (λ x. line_of F.kind (F.figures x)) (line_refusal (F.kind ∷ []) line.now) line.now result }
 {
     let (kind, fields) = split(line)?;
-    if kind != F::shape().kind {
-        return Err(fault(Refusal::UnknownKind));
+    if kind != F::KIND {
+        return Err(Layer::Frame.fault(0, Refusal::UnknownKind));
     }
     read_fields::<F>(fields)
 }
 
-// Fills `line` with the digits of the fields of `item`.
-fn write_fields<F: Frame>(item: &F::Record, line: &mut [u8])
-    requires { length line.old ≡ 2 * bytes F.kind.widths }
-    ensures { line.new ≡ text_of F.kind.widths (F.figures item.now) }
+// Fills `line` with the digits of these numbers in fields of these widths.
+// Kept: tried; in a loop that goes on with `rest = after`, nothing ties what `line` ends as to what `rest` holds.
+fn write_numbers(widths: &[usize], numbers: &[u64], line: &mut [u8])
+    requires count { length numbers.now ≡ length widths.now }
+    requires size { length line.old ≡ 2 * bytes widths.now }
+    ensures { line.new ≡ text_of widths.now numbers.now }
 {
-    let shape = F::shape();
-    let figures = F::figures_of(item);
-    let mut at = 0;
-    for place in 0..shape.fields {
-        let end = at + 2 * shape.widths[place];
-        write_number(&mut line[at..end], figures[place]);
-        at = end;
+    if let ([width, widths @ ..], [n, numbers @ ..]) = (widths, numbers) {
+        let (field, rest) = line.split_at_mut(2 * *width);
+        write_number(field, *n);
+        write_numbers(widths, numbers, rest);
     }
 }
 
@@ -127,15 +126,9 @@ fn write_line<F: Frame>(item: &F::Record, line: &mut [u8])
     requires { length line.old ≡ 2 + 2 * bytes F.kind.widths }
     ensures { line.new ≡ line_of F.kind (F.figures item.now) }
 {
-    write_number(&mut line[0..2], u64::from(F::shape().kind));
-    write_fields::<F>(item, &mut line[2..]);
-}
-
-// How many digits the frame of `item` has.
-fn line_length<F: Frame>(item: &F::Record) -> usize
-    ensures { result ≡ length (line_of F.kind (F.figures item.now)) }
-{
-    2 + F::shape().digits
+    let (kind, fields) = line.split_at_mut(2);
+    write_number(kind, u64::from(F::KIND));
+    write_numbers(F::widths(), F::figures_of(item).as_slice(), fields);
 }
 
 // Writes the frame of `item` and a line feed at the front of `memory`, which has room for both.
@@ -143,9 +136,17 @@ fn fill<F: Frame>(item: &F::Record, memory: &mut [u8])
     requires { length (line_of F.kind (F.figures item.now)) < length memory.old }
     ensures { memory.new ≡ written (line_of F.kind (F.figures item.now)) memory.old }
 {
-    let length = line_length::<F>(item);
-    write_line::<F>(item, &mut memory[0..length]);
-    memory[length] = b'\n';
+    let (line, rest) = memory.split_at_mut(2 * F::LENGTH);
+    write_line::<F>(item, line);
+    rest[0] = b'\n';
+}
+
+// How many digits the frame of `item` has.
+#[tactic(auto, using(crate::specs::Texts::length_line))]
+fn line_length<F: Frame>(item: &F::Record) -> usize
+    ensures { result ≡ length (line_of F.kind (F.figures item.now)) }
+{
+    2 * F::LENGTH
 }
 
 // Writes the frame of `item` and a line feed at the front of `memory`, and tells how many bytes these are.
@@ -155,7 +156,7 @@ pub fn write<F: Frame>(item: &F::Record, memory: &mut [u8]) -> Result<usize, Fau
 {
     let length = line_length::<F>(item);
     if memory.len() <= length {
-        return Err(fault(Refusal::LineMemoryTooShort));
+        return Err(Layer::Frame.fault(0, Refusal::LineMemoryTooShort));
     }
     fill::<F>(item, memory);
     Ok(length + 1)

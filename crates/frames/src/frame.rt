@@ -1,33 +1,20 @@
 // A kind of frame: its record, its length, and how the record stands in its fields.
-ghost use Rattle.std.specs.Prelude.{◌≡◌, ℕ, true, List, length, take, Some, MatchOption, ◌≢◌};
+ghost use Rattle.std.specs.Prelude.{◌≡◌, ℕ, Bool, true, List, Some, MatchOption, ◌≢◌};
 ghost use Rattle.frames.specs.Fields.{carries};
 ghost use Rattle.frames.specs.Frames.{choice_lawful};
 ghost use Rattle.frames.specs.Kinds.{Kind, all_kinds, find_kind};
 ghost use Rattle.frames.specs.Shapes.{Shaped};
 
+use std::convert::AsSlice;
+
 // The most fields of a frame.
 pub const MOST_FIELDS: usize = 8;
 
-// What the fields of a frame hold, from the first place on.
-pub type Figures = [u64; MOST_FIELDS];
-
-// What the codec knows of a kind of frame.
-#[derive(Clone, Copy)]
-pub struct Shape {
-    // The byte that tells the kind.
-    pub kind: u8,
-    // Whether the second field is a choice between 01 and 02.
-    pub choice: bool,
-    // The digits of all fields together.
-    pub digits: usize,
-    // How many fields there are.
-    pub fields: usize,
-    // Their widths in bytes.
-    pub widths: [usize; MOST_FIELDS],
-}
-
 pub trait Frame {
     type Record;
+
+    // What the fields hold, from the first place on: as many figures as the kind has fields.
+    type Figures: AsSlice<u64> + Drop;
 
     // The byte that tells the kind.
     const KIND: u8;
@@ -35,21 +22,36 @@ pub trait Frame {
     // The bytes of the frame, the kind byte among them.
     const LENGTH: usize;
 
+    // Whether the second field is a choice between 01 and 02.
+    // Kept: both kinds of choice have these two bytes, so that one Bool is plainer than a type of choice for each kind of frame.
+    const CHOICE: bool;
+
+    ghost KIND: { ℕ };
+
+    ghost LENGTH: { ℕ };
+
+    ghost CHOICE: { Bool };
+
     ghost kind: { Kind };
 
     // What the fields hold for a record.
     ghost figures: { Self.Record → List ℕ };
 
-    fn shape() -> Shape
-        ensures { Shaped kind result };
+    // The widths of the fields in bytes. A function, since a clause cannot say what a constant refers to.
+    fn widths() -> &'static [usize]
+        ensures { result.now ≡ kind.widths };
 
-    // What the fields hold for a record, from the first place on.
-    fn figures_of(item: &Self::Record) -> Figures
-        ensures { take (length kind.widths) result ≡ figures item.now };
+    // What the fields hold for a record.
+    // Kept: a From and a TryFrom are no plainer: the laws told and made speak of both, so that both stand in the trait.
+    fn figures_of(item: &Self::Record) -> Self::Figures
+        ensures { Self.Figures.items result ≡ figures item.now };
 
     // The record with these figures, if there is one.
     fn record_of(numbers: &[u64]) -> Option<Self::Record>
         ensures { MatchOption result ((x : Self.Record) → figures x ≢ numbers.now) (λ x. figures x ≡ numbers.now) };
+
+    // The constants are those of the kind.
+    ghost shaped: { Shaped kind KIND LENGTH CHOICE };
 
     // It is one of the kinds.
     ghost listed: { find_kind all_kinds kind.byte ≡ Some kind };

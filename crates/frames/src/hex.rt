@@ -3,6 +3,7 @@ ghost use Rattle.std.specs.Prelude.{◌≡◌, ◌%◌, ◌≤◌, true, [], ◌
 ghost use Rattle.frames.specs.Hex.{digit_of, value_of, are_digits, number_of, digits_of};
 
 // The value of the digit whose code is `code`, and 16 where it is no digit.
+// Kept: an Option is no plainer: a number is defined with 16 for what is no digit, so `byte` and `number` would put it back.
 pub(crate) fn value(code: u8) -> u8
     ensures { result ≡ value_of code }
 {
@@ -26,6 +27,7 @@ pub(crate) fn digit(bits: u8) -> u8
 }
 
 // The byte of two digits.
+// Kept: from_str_radix is no plainer: it reads a &str and answers a Result, and these are bytes that were asked already.
 pub(crate) fn byte(high: u8, low: u8) -> u16
     ensures { result ≡ number_of (high ∷ low ∷ []) }
 {
@@ -36,15 +38,12 @@ pub(crate) fn byte(high: u8, low: u8) -> u16
 pub(crate) fn all_digits(text: &[u8]) -> bool
     ensures { result ≡ are_digits text.now }
 {
-    for code in text {
-        if value(*code) >= 16 {
-            return false;
-        }
-    }
-    true
+    text.iter().all(|code| value(*code) < 16)
 }
 
 // The number that the digits of `field` write.
+// Kept: from_str_radix is no plainer, for the same reason.
+#[tactic(auto, using(crate::specs::Numbers::digit_small, crate::specs::Numbers::hex_from, crate::specs::Numbers::number_next, crate::specs::Numbers::number_room))]
 pub(crate) fn number(field: &[u8]) -> u64
     requires digits { are_digits field.now ≡ true }
     requires width { length field.now ≤ 16 }
@@ -58,12 +57,12 @@ pub(crate) fn number(field: &[u8]) -> u64
 }
 
 // Fills `field` with the last digits of `n`, as many as it has places.
+// Kept: tried; after rev, as after any adapter of iter_mut, a proof knows the length of `field` alone, and not what it holds.
 pub(crate) fn write_number(field: &mut [u8], n: u64)
     ensures { field.new ≡ digits_of (length field.old) n }
 {
-    let mut rest = n;
-    for i in (0..field.len()).rev() {
-        field[i] = digit((rest % 16) as u8);
-        rest /= 16;
+    if let Some((last, front)) = field.split_last_mut() {
+        *last = digit((n % 16) as u8);
+        write_number(front, n / 16);
     }
 }

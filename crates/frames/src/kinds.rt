@@ -1,60 +1,17 @@
 // The seven kinds of frames.
-ghost use Rattle.std.specs.Prelude.{◌≡◌, MatchOption};
-ghost use Rattle.frames.specs.Choices.{class_kind_byte_lem, side_byte_lem};
+ghost use Rattle.std.specs.Prelude.{true, false};
 ghost use Rattle.frames.specs.Kinds.{class_kind, security_kind, pair_kind, booking_kind, deposit_kind, total_kind, fault_kind};
 ghost use Rattle.frames.specs.Records.{class_figures, security_figures, pair_figures, booking_figures, deposit_figures, total_figures, fault_figures};
 ghost use Rattle.frames.specs.Told.{class_told, security_told, pair_told, booking_told, deposit_told, total_told, fault_told};
 ghost use Rattle.frames.specs.Made.{class_made, security_made, pair_made, booking_made, deposit_made, total_made, fault_made};
 ghost use Rattle.std.proofs.Common.{rules};
 
-use crate::frame::{Figures, Frame, Shape};
-use crate::narrow::{four_bytes, one_byte, three_bytes, two_bytes};
+use crate::frame::Frame;
+use crate::narrow::three_bytes;
 use crate::record::{
     BookingRecord, ClassRecord, DepositRecord, FaultRecord, PairRecord, SecurityRecord, TotalRecord,
 };
 use terms::choice::{ClassKind, Side};
-
-// The byte that stands for a kind of class.
-fn class_kind_byte(kind: ClassKind) -> u64
-    ensures { result ≡ class_kind_byte_lem kind }
-{
-    match kind {
-        ClassKind::Liquidity => 1,
-        ClassKind::Duration => 2,
-    }
-}
-
-// The kind of class that a byte stands for, if there is one.
-fn class_kind_of(byte: u64) -> Option<ClassKind>
-    ensures { MatchOption result ((x : ClassKind) → class_kind_byte_lem x ≡ byte → ⊥) (λ x. class_kind_byte_lem x ≡ byte) }
-{
-    match byte {
-        1 => Some(ClassKind::Liquidity),
-        2 => Some(ClassKind::Duration),
-        _ => None,
-    }
-}
-
-// The byte that stands for a side.
-fn side_byte(side: Side) -> u64
-    ensures { result ≡ side_byte_lem side }
-{
-    match side {
-        Side::Bought => 1,
-        Side::Sold => 2,
-    }
-}
-
-// The side that a byte stands for, if there is one.
-fn side_of(byte: u64) -> Option<Side>
-    ensures { MatchOption result ((x : Side) → side_byte_lem x ≡ byte → ⊥) (λ x. side_byte_lem x ≡ byte) }
-{
-    match byte {
-        1 => Some(Side::Bought),
-        2 => Some(Side::Sold),
-        _ => None,
-    }
-}
 
 // C: a class row.
 pub struct ClassFrame;
@@ -62,13 +19,25 @@ pub struct ClassFrame;
 impl Frame for ClassFrame {
     type Record = ClassRecord;
 
+    type Figures = [u64; 5];
+
     const KIND: u8 = 0x43;
 
     const LENGTH: usize = 12;
 
+    const CHOICE: bool = true;
+
+    ghost KIND = { 0x43 };
+
+    ghost LENGTH = { 12 };
+
+    ghost CHOICE = { true };
+
     ghost kind = { class_kind };
 
     ghost figures = { class_figures };
+
+    ghost shaped = { Prim.search rules };
 
     ghost listed = { Prim.search rules };
 
@@ -80,26 +49,17 @@ impl Frame for ClassFrame {
 
     ghost made = { class_made };
 
-    fn shape() -> Shape {
-        Shape {
-            kind: Self::KIND,
-            choice: true,
-            digits: 2 * (Self::LENGTH - 1),
-            fields: 5,
-            widths: [1, 1, 3, 3, 3, 0, 0, 0],
-        }
+    fn widths() -> &'static [usize] {
+        &[1, 1, 3, 3, 3]
     }
 
-    fn figures_of(item: &ClassRecord) -> Figures {
+    fn figures_of(item: &ClassRecord) -> [u64; 5] {
         [
             u64::from(item.class),
-            class_kind_byte(item.kind),
+            u64::from(u8::from(item.kind)),
             u64::from(item.y),
             u64::from(item.x),
             u64::from(item.dep),
-            0,
-            0,
-            0,
         ]
     }
 
@@ -108,8 +68,8 @@ impl Frame for ClassFrame {
             return None;
         };
         Some(ClassRecord {
-            class: one_byte(*class)?,
-            kind: class_kind_of(*kind)?,
+            class: u8::try_from(*class).ok()?,
+            kind: ClassKind::try_from(u8::try_from(*kind).ok()?).ok()?,
             y: three_bytes(*y)?,
             x: three_bytes(*x)?,
             dep: three_bytes(*dep)?,
@@ -123,13 +83,25 @@ pub struct SecurityFrame;
 impl Frame for SecurityFrame {
     type Record = SecurityRecord;
 
+    type Figures = [u64; 5];
+
     const KIND: u8 = 0x53;
 
     const LENGTH: usize = 14;
 
+    const CHOICE: bool = false;
+
+    ghost KIND = { 0x53 };
+
+    ghost LENGTH = { 14 };
+
+    ghost CHOICE = { false };
+
     ghost kind = { security_kind };
 
     ghost figures = { security_figures };
+
+    ghost shaped = { Prim.search rules };
 
     ghost listed = { Prim.search rules };
 
@@ -141,26 +113,17 @@ impl Frame for SecurityFrame {
 
     ghost made = { security_made };
 
-    fn shape() -> Shape {
-        Shape {
-            kind: Self::KIND,
-            choice: false,
-            digits: 2 * (Self::LENGTH - 1),
-            fields: 5,
-            widths: [1, 1, 4, 3, 4, 0, 0, 0],
-        }
+    fn widths() -> &'static [usize] {
+        &[1, 1, 4, 3, 4]
     }
 
-    fn figures_of(item: &SecurityRecord) -> Figures {
+    fn figures_of(item: &SecurityRecord) -> [u64; 5] {
         [
             u64::from(item.security),
             u64::from(item.class),
             u64::from(item.price),
             u64::from(item.rate),
             u64::from(item.duration),
-            0,
-            0,
-            0,
         ]
     }
 
@@ -169,11 +132,11 @@ impl Frame for SecurityFrame {
             return None;
         };
         Some(SecurityRecord {
-            security: one_byte(*security)?,
-            class: one_byte(*class)?,
-            price: four_bytes(*price)?,
+            security: u8::try_from(*security).ok()?,
+            class: u8::try_from(*class).ok()?,
+            price: u32::try_from(*price).ok()?,
             rate: three_bytes(*rate)?,
-            duration: four_bytes(*duration)?,
+            duration: u32::try_from(*duration).ok()?,
         })
     }
 }
@@ -184,13 +147,25 @@ pub struct PairFrame;
 impl Frame for PairFrame {
     type Record = PairRecord;
 
+    type Figures = [u64; 3];
+
     const KIND: u8 = 0x50;
 
     const LENGTH: usize = 6;
 
+    const CHOICE: bool = false;
+
+    ghost KIND = { 0x50 };
+
+    ghost LENGTH = { 6 };
+
+    ghost CHOICE = { false };
+
     ghost kind = { pair_kind };
 
     ghost figures = { pair_figures };
+
+    ghost shaped = { Prim.search rules };
 
     ghost listed = { Prim.search rules };
 
@@ -202,26 +177,15 @@ impl Frame for PairFrame {
 
     ghost made = { pair_made };
 
-    fn shape() -> Shape {
-        Shape {
-            kind: Self::KIND,
-            choice: false,
-            digits: 2 * (Self::LENGTH - 1),
-            fields: 3,
-            widths: [1, 1, 3, 0, 0, 0, 0, 0],
-        }
+    fn widths() -> &'static [usize] {
+        &[1, 1, 3]
     }
 
-    fn figures_of(item: &PairRecord) -> Figures {
+    fn figures_of(item: &PairRecord) -> [u64; 3] {
         [
             u64::from(item.first),
             u64::from(item.second),
             u64::from(item.crt),
-            0,
-            0,
-            0,
-            0,
-            0,
         ]
     }
 
@@ -230,8 +194,8 @@ impl Frame for PairFrame {
             return None;
         };
         Some(PairRecord {
-            first: one_byte(*first)?,
-            second: one_byte(*second)?,
+            first: u8::try_from(*first).ok()?,
+            second: u8::try_from(*second).ok()?,
             crt: three_bytes(*crt)?,
         })
     }
@@ -243,13 +207,25 @@ pub struct BookingFrame;
 impl Frame for BookingFrame {
     type Record = BookingRecord;
 
+    type Figures = [u64; 3];
+
     const KIND: u8 = 0x42;
 
     const LENGTH: usize = 7;
 
+    const CHOICE: bool = true;
+
+    ghost KIND = { 0x42 };
+
+    ghost LENGTH = { 7 };
+
+    ghost CHOICE = { true };
+
     ghost kind = { booking_kind };
 
     ghost figures = { booking_figures };
+
+    ghost shaped = { Prim.search rules };
 
     ghost listed = { Prim.search rules };
 
@@ -261,26 +237,15 @@ impl Frame for BookingFrame {
 
     ghost made = { booking_made };
 
-    fn shape() -> Shape {
-        Shape {
-            kind: Self::KIND,
-            choice: true,
-            digits: 2 * (Self::LENGTH - 1),
-            fields: 3,
-            widths: [1, 1, 4, 0, 0, 0, 0, 0],
-        }
+    fn widths() -> &'static [usize] {
+        &[1, 1, 4]
     }
 
-    fn figures_of(item: &BookingRecord) -> Figures {
+    fn figures_of(item: &BookingRecord) -> [u64; 3] {
         [
             u64::from(item.security),
-            side_byte(item.side),
+            u64::from(u8::from(item.side)),
             u64::from(item.quantity),
-            0,
-            0,
-            0,
-            0,
-            0,
         ]
     }
 
@@ -289,9 +254,9 @@ impl Frame for BookingFrame {
             return None;
         };
         Some(BookingRecord {
-            security: one_byte(*security)?,
-            side: side_of(*side)?,
-            quantity: four_bytes(*quantity)?,
+            security: u8::try_from(*security).ok()?,
+            side: Side::try_from(u8::try_from(*side).ok()?).ok()?,
+            quantity: u32::try_from(*quantity).ok()?,
         })
     }
 }
@@ -302,13 +267,25 @@ pub struct DepositFrame;
 impl Frame for DepositFrame {
     type Record = DepositRecord;
 
+    type Figures = [u64; 6];
+
     const KIND: u8 = 0x44;
 
     const LENGTH: usize = 42;
 
+    const CHOICE: bool = false;
+
+    ghost KIND = { 0x44 };
+
+    ghost LENGTH = { 42 };
+
+    ghost CHOICE = { false };
+
     ghost kind = { deposit_kind };
 
     ghost figures = { deposit_figures };
+
+    ghost shaped = { Prim.search rules };
 
     ghost listed = { Prim.search rules };
 
@@ -320,17 +297,11 @@ impl Frame for DepositFrame {
 
     ghost made = { deposit_made };
 
-    fn shape() -> Shape {
-        Shape {
-            kind: Self::KIND,
-            choice: false,
-            digits: 2 * (Self::LENGTH - 1),
-            fields: 6,
-            widths: [1, 8, 8, 8, 8, 8, 0, 0],
-        }
+    fn widths() -> &'static [usize] {
+        &[1, 8, 8, 8, 8, 8]
     }
 
-    fn figures_of(item: &DepositRecord) -> Figures {
+    fn figures_of(item: &DepositRecord) -> [u64; 6] {
         [
             u64::from(item.class),
             item.drr,
@@ -338,8 +309,6 @@ impl Frame for DepositFrame {
             item.dswk,
             item.kspk,
             item.dolr,
-            0,
-            0,
         ]
     }
 
@@ -348,7 +317,7 @@ impl Frame for DepositFrame {
             return None;
         };
         Some(DepositRecord {
-            class: one_byte(*class)?,
+            class: u8::try_from(*class).ok()?,
             drr: *drr,
             drs: *drs,
             dswk: *dswk,
@@ -364,13 +333,25 @@ pub struct TotalFrame;
 impl Frame for TotalFrame {
     type Record = TotalRecord;
 
+    type Figures = [u64; 4];
+
     const KIND: u8 = 0x54;
 
     const LENGTH: usize = 13;
 
+    const CHOICE: bool = false;
+
+    ghost KIND = { 0x54 };
+
+    ghost LENGTH = { 13 };
+
+    ghost CHOICE = { false };
+
     ghost kind = { total_kind };
 
     ghost figures = { total_figures };
+
+    ghost shaped = { Prim.search rules };
 
     ghost listed = { Prim.search rules };
 
@@ -382,26 +363,16 @@ impl Frame for TotalFrame {
 
     ghost made = { total_made };
 
-    fn shape() -> Shape {
-        Shape {
-            kind: Self::KIND,
-            choice: false,
-            digits: 2 * (Self::LENGTH - 1),
-            fields: 4,
-            widths: [1, 2, 1, 8, 0, 0, 0, 0],
-        }
+    fn widths() -> &'static [usize] {
+        &[1, 2, 1, 8]
     }
 
-    fn figures_of(item: &TotalRecord) -> Figures {
+    fn figures_of(item: &TotalRecord) -> [u64; 4] {
         [
             u64::from(item.classes),
             u64::from(item.securities),
             u64::from(item.pairs),
             item.dspan,
-            0,
-            0,
-            0,
-            0,
         ]
     }
 
@@ -410,9 +381,9 @@ impl Frame for TotalFrame {
             return None;
         };
         Some(TotalRecord {
-            classes: one_byte(*classes)?,
-            securities: two_bytes(*securities)?,
-            pairs: one_byte(*pairs)?,
+            classes: u8::try_from(*classes).ok()?,
+            securities: u16::try_from(*securities).ok()?,
+            pairs: u8::try_from(*pairs).ok()?,
             dspan: *dspan,
         })
     }
@@ -424,13 +395,25 @@ pub struct FaultFrame;
 impl Frame for FaultFrame {
     type Record = FaultRecord;
 
+    type Figures = [u64; 4];
+
     const KIND: u8 = 0x46;
 
     const LENGTH: usize = 9;
 
+    const CHOICE: bool = false;
+
+    ghost KIND = { 0x46 };
+
+    ghost LENGTH = { 9 };
+
+    ghost CHOICE = { false };
+
     ghost kind = { fault_kind };
 
     ghost figures = { fault_figures };
+
+    ghost shaped = { Prim.search rules };
 
     ghost listed = { Prim.search rules };
 
@@ -442,26 +425,16 @@ impl Frame for FaultFrame {
 
     ghost made = { fault_made };
 
-    fn shape() -> Shape {
-        Shape {
-            kind: Self::KIND,
-            choice: false,
-            digits: 2 * (Self::LENGTH - 1),
-            fields: 4,
-            widths: [1, 1, 4, 2, 0, 0, 0, 0],
-        }
+    fn widths() -> &'static [usize] {
+        &[1, 1, 4, 2]
     }
 
-    fn figures_of(item: &FaultRecord) -> Figures {
+    fn figures_of(item: &FaultRecord) -> [u64; 4] {
         [
             u64::from(item.number),
             u64::from(item.layer),
             u64::from(item.line),
             u64::from(item.place),
-            0,
-            0,
-            0,
-            0,
         ]
     }
 
@@ -470,10 +443,10 @@ impl Frame for FaultFrame {
             return None;
         };
         Some(FaultRecord {
-            number: one_byte(*number)?,
-            layer: one_byte(*layer)?,
-            line: four_bytes(*line)?,
-            place: two_bytes(*place)?,
+            number: u8::try_from(*number).ok()?,
+            layer: u8::try_from(*layer).ok()?,
+            line: u32::try_from(*line).ok()?,
+            place: u16::try_from(*place).ok()?,
         })
     }
 }

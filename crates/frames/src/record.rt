@@ -1,10 +1,12 @@
 // The records that frames carry. Each holds only figures that its fields can carry.
 ghost use Rattle.std.specs.Prelude.{◌≡◌, true, [], ◌∷◌};
-ghost use Rattle.frames.specs.Choices.{class_kind_byte_lem, side_byte_lem};
+ghost use Rattle.terms.specs.Choices.{class_kind_byte, side_byte};
+ghost use Rattle.terms.specs.Numbers.{layer_number, refusal_number};
 ghost use Rattle.frames.specs.Fields.{carries};
 ghost use Rattle.frames.specs.Kinds.{class_kind, security_kind, pair_kind, booking_kind, deposit_kind, total_kind, fault_kind};
 
 use terms::choice::{ClassKind, Side};
+use terms::fault::Fault;
 
 // C: a class row of a sheet, its rates in 10^-5 of the whole.
 #[derive(Clone, Copy)]
@@ -14,7 +16,7 @@ pub struct ClassRecord {
     pub y: u32,
     pub x: u32,
     pub dep: u32,
-    ghost carried: { carries class_kind.widths (class ∷ class_kind_byte_lem kind ∷ y ∷ x ∷ dep ∷ []) ≡ true },
+    ghost carried: { carries class_kind.widths (class ∷ class_kind_byte kind ∷ y ∷ x ∷ dep ∷ []) ≡ true },
 }
 
 // S: a security row of a sheet. Price and currency rate count 10^-4, the duration 10^-6.
@@ -43,7 +45,7 @@ pub struct BookingRecord {
     pub security: u8,
     pub side: Side,
     pub quantity: u32,
-    ghost carried: { carries booking_kind.widths (security ∷ side_byte_lem side ∷ quantity ∷ []) ≡ true },
+    ghost carried: { carries booking_kind.widths (security ∷ side_byte side ∷ quantity ∷ []) ≡ true },
 }
 
 // D: the deposit of one class, in grosz.
@@ -69,6 +71,7 @@ pub struct TotalRecord {
 }
 
 // F: a refused call: the numbers of the refusal and of the layer, the line, from 1, or 0, and the place.
+// Kept: these are numbers, not a Refusal and a Layer: a frame carries any byte there, so that what it reads may name neither.
 #[derive(Clone, Copy)]
 pub struct FaultRecord {
     pub number: u8,
@@ -76,4 +79,18 @@ pub struct FaultRecord {
     pub line: u32,
     pub place: u16,
     ghost carried: { carries fault_kind.widths (number ∷ layer ∷ line ∷ place ∷ []) ≡ true },
+}
+
+impl From<Fault> for FaultRecord {
+    ghost from_gives = { λ fault item. item.number ∷ item.layer ∷ item.line ∷ item.place ∷ [] ≡ refusal_number fault.refusal ∷ layer_number fault.layer ∷ 0 ∷ fault.place ∷ [] };
+
+    // The record of a fault with no line.
+    fn from(fault: Fault) -> FaultRecord {
+        FaultRecord {
+            number: u8::from(fault.refusal),
+            layer: u8::from(fault.layer),
+            line: 0,
+            place: fault.place,
+        }
+    }
 }

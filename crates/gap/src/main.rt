@@ -3,19 +3,12 @@
 
 mod report;
 mod spoken;
-mod taking;
 
 use crate::report::report;
+use inputs::read_text;
 use std::io;
-use std::io::Read;
-use terms::limits::TEXT_LIMIT;
 
 fn main(rt: HostRuntime) -> io::Result<()> {
-    let mut text = Vec::new(rt.alloc());
-    // One byte more than a text may have tells that it is too long.
-    let _ = rt
-        .stdin()
-        .take(TEXT_LIMIT as u64 + 1)
-        .read_to_end(&mut text)?;
+    let text = read_text(rt.stdin(), rt.alloc())?;
     report(&rt, text.as_slice())
 }

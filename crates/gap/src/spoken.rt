@@ -2,36 +2,11 @@
 use deposits::records::{ClassMargin, Match};
 use measures::record::Measure;
 use measures::units::{Exact, Thousandths};
-use std::{fmt, io};
-use terms::fault::Fault;
-use wording::refusals::{LayerWords, RefusalWords};
-use wording::units::{Amount, Money};
+use std::io;
+use wording::units::{Amount, Leftover, Money};
 
-// A signed amount.
-#[derive(Clone, Copy)]
-struct Leftover(i64);
-
-impl fmt::Display for Leftover {
-    fn fmt<W: fmt::Write>(&self, f: &mut fmt::Formatter<W>) -> fmt::Result {
-        if self.0 == 0 {
-            return f.write_str("nothing");
-        }
-        let amount = Amount(self.0.unsigned_abs());
-        let side = if self.0 < 0 { "sold" } else { "bought" };
-        write!(f, "{amount} {side}")
-    }
-}
-
-// Says why something is refused: by which part, at which line (0 where there is none) and at which security or class.
-pub(crate) fn say_refusal(rt: &HostRuntime, line: u32, fault: Fault) -> io::Result<()> {
-    let number = fault.refusal.number();
-    let words = RefusalWords(fault.refusal);
-    let layer = fault.layer.number();
-    let part = LayerWords(fault.layer);
-    let place = fault.place;
-    println!(rt; "Refusal {number}: {words} (layer {layer}, {part}; line {line}, place {place}).")
-}
-
+// Says PK and PS, what is left over, and the parts of the deposit of a class.
+// Kept: replay says the same figures in words of its own, so that only their names would be shared, which is no plainer.
 fn say_class(rt: &HostRuntime, number: usize, class: &ClassMargin) -> io::Result<()> {
     let bought = class.bought.units();
     let sold = class.sold.units();
@@ -49,6 +24,7 @@ fn say_class(rt: &HostRuntime, number: usize, class: &ClassMargin) -> io::Result
     println!(rt; "  DRR {drr} + DRS {drs} + DSWK {dswk} - KSPK {kspk} = DOLR {dolr}")
 }
 
+// Says a class if it is held.
 fn say_held(rt: &HostRuntime, number: usize, class: &ClassMargin) -> io::Result<()> {
     if !class.held {
         return Ok(());
@@ -56,6 +32,8 @@ fn say_held(rt: &HostRuntime, number: usize, class: &ClassMargin) -> io::Result<
     say_class(rt, number, class)
 }
 
+// Says what a pair matches.
+// Kept: as say_class.
 fn say_match(rt: &HostRuntime, pair: &Match) -> io::Result<()> {
     let first = pair.first;
     let second = pair.second;
@@ -87,13 +65,12 @@ pub(crate) fn say_measure(
     measure: Measure,
     classes: &[ClassMargin],
     matches: &[Match],
-    pairs: usize,
 ) -> io::Result<()> {
     say_gap(rt, measure)?;
     for (number, class) in classes.iter().enumerate() {
         say_held(rt, number, class)?;
     }
-    for pair in matches.iter().take(pairs) {
+    for pair in matches {
         say_match(rt, pair)?;
     }
     Ok(())

@@ -1,6 +1,7 @@
 -- What a deposit wrote, copied out of the memory, is told right. Assumes nothing.
 use Rattle.std.proofs.Common.{◌≡◌, ℕ, ◌≤◌, Bool, true, false, ◌&&◌, leb, ◌++◌, map, length, take, drop, ℤ, ◌≤ℤ◌, None, Ok, Option, sym, refl, ap, ◌∙◌, subst, arith}
 use mathlib.Core.List as L
+use Rattle.std.specs.Option.{some_prefix}
 use Rattle.std.proofs.lemmas.List.{get_or-take, length-append, length-drop, length-take-le, take-append-drop}
 use Rattle.std.proofs.lemmas.Bool.{and_parts, leb-true}
 use Rattle.terms.specs.Limits.{class_count, pair_limit}
@@ -59,17 +60,17 @@ module _ (rows : Rows) (lawful : Lawful rows) (nets : ℕ → ℤ) (cs : L.List 
     summary = d.summary;
     long = length-take-le class_count ds h;
     classes = λ c k. subst (Margin rows nets c) (sym (get_or-take class_count ds c none k)) (d.classes c k);
-    pairs = item_count;
+    pairs = ap length (front (items m)) ∙ item_count;
     matches = ap padded d.items;
   }
 
   pub wrote : memory_of ds m ≡ told_into (memory_of cs l) (telling_of s ds (items m))
   wrote =
       let classes : ds ≡ take class_count ds ++ drop class_count cs = sym (take-append-drop class_count ds) ∙ ap (λ xs. take class_count ds ++ xs) d.past in
-      let told : items m ≡ take (length (items m)) (padded (items m)) = sym (front (items m)) in
-      let places : memory m ≡ take (length (items m)) (padded (items m)) ++ drop (length (items m)) (memory l) =
+      let told : items m ≡ some_prefix (padded (items m)) = sym (front (items m)) in
+      let places : memory m ≡ some_prefix (padded (items m)) ++ drop (length (some_prefix (padded (items m)))) (memory l) =
       d.memory ∙ ap (λ ms. ms ++ drop (length rows.pairs) (memory l)) (sym d.items ∙ told)
-      ∙ ap (λ n. take (length (items m)) (padded (items m)) ++ drop n (memory l)) (sym item_count) in
+      ∙ ap (λ n. some_prefix (padded (items m)) ++ drop n (memory l)) (sym item_count ∙ ap length told) in
       λ i. record { classes = classes i; places = places i; matches = told i }
 
 module _ (below : Rows) (lawful : Lawful below) (a : Additions) (nets : ℕ → ℤ) where

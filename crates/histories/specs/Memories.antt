@@ -1,5 +1,5 @@
 -- What a history leaves in the memory handed in for deposits. Assumes nothing.
-use Rattle.std.specs.Prelude.{[], ◌∷◌, ◌++◌, drop, Ok, Err, Result}
+use Rattle.std.specs.Prelude.{[], ◌∷◌, ◌++◌, length, drop, Ok, Err, Result}
 use mathlib.Core.List as L
 use Rattle.terms.specs.Limits.{class_count}
 use Rattle.terms.specs.declared.fault.Fault.{Fault}
@@ -25,7 +25,7 @@ memory_of classes matches = record { classes = classes; places = memory matches;
 abbrev pub told_into : Memory → Telling → Memory
 told_into m t = record {
   classes = t.classes ++ drop class_count m.classes;
-  places = told_matches t ++ drop t.pairs m.places;
+  places = told_matches t ++ drop (length (told_matches t)) m.places;
   matches = told_matches t;
 }
 

@@ -1,9 +1,9 @@
 -- What a deposit tells, with every figure. Assumes nothing.
-use Rattle.std.specs.Prelude.{◌≡◌, ℕ, ◌-◌, ◌<◌, List, ◌++◌, map, length, take, replicate, ℤ, slice_index_or}
+use Rattle.std.specs.Prelude.{◌≡◌, ℕ, ◌-◌, ◌<◌, List, ◌++◌, map, length, take, replicate, ℤ, Some, None, Option, slice_index_or}
+use Rattle.std.specs.Option.{some_prefix}
 use Rattle.terms.specs.Limits.{class_count, pair_limit}
 use Rattle.rules.specs.Rows.{Rows}
 use Rattle.rules.specs.Margin.{rounded, net_value}
-use Rattle.positions.specs.Values.{zl}
 use Rattle.deposits.specs.declared.records.ClassMargin.{ClassMargin}
 use Rattle.deposits.specs.declared.records.Match.{Match}
 use Rattle.deposits.specs.declared.records.Summary.{Summary}
@@ -11,17 +11,13 @@ use Rattle.deposits.specs.Told.{none, told_by}
 use Rattle.deposits.specs.Deposits.{Margin, Summed}
 use Rattle.histories.specs.declared.telling.Telling.{Telling}
 
--- a place with no match
-abbrev pub no_match : Match
-no_match = record { first = 0; second = 0; matched = zl 0 }
-
--- matches at the front of the places of a telling
-abbrev pub padded : List Match → List Match
-padded ms = ms ++ replicate (pair_limit - length ms) no_match
+-- matches at the front of the places of a telling, and none behind them
+abbrev pub padded : List Match → List (Option Match)
+padded ms = map Some ms ++ replicate (pair_limit - length ms) None
 
 -- what is told by a summary, the class places and the matches that a deposit leaves
 abbrev pub telling_of : Summary → List ClassMargin → List Match → Telling
-telling_of s classes ms = record { summary = s; classes = take class_count classes; matches = padded ms; pairs = length ms }
+telling_of s classes ms = record { summary = s; classes = take class_count classes; matches = padded ms }
 
 -- what is told of a class
 abbrev pub told_class : Telling → ℕ → ClassMargin
@@ -29,7 +25,7 @@ told_class t c = slice_index_or t.classes c none
 
 -- the matches that are told, one a pair
 abbrev pub told_matches : Telling → List Match
-told_matches t = take t.pairs t.matches
+told_matches t = some_prefix t.matches
 
 -- how much each of them matches, and the leftover of each class
 abbrev pub told_parts : Telling → List ℕ
@@ -44,5 +40,5 @@ pub record Tells (rows : Rows) (nets : ℕ → ℤ) (t : Telling) : Type 0 where
   pub summary : Summed rows nets t.summary
   pub long : length t.classes ≡ class_count
   pub classes : (c : ℕ) → c < class_count → Margin rows nets c (told_class t c)
-  pub pairs : t.pairs ≡ length rows.pairs
+  pub pairs : length (told_matches t) ≡ length rows.pairs
   pub matches : t.matches ≡ padded (told_by (net_value rounded rows nets) rows.pairs)

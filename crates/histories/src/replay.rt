@@ -11,11 +11,9 @@ use crate::step::{Entry, Step};
 use crate::telling::Telling;
 use deposits::deposit::deposit;
 use deposits::records::{ClassMargin, Match};
-use lists::list::List;
+use lists::list::{List, NO_SUCH_PLACE};
 use surcharges::cover::{Cover, call_own};
 use terms::fault::Fault;
-use terms::layer::Layer;
-use terms::refusal::Refusal;
 use tops::top::Top;
 
 // A replay that did not begin: the fault, and the book and the sheet as they were.
@@ -26,90 +24,89 @@ pub struct Unopened<B, S> {
     pub sheet: S,
 }
 
-// The refusal where the log has too few places.
-const NO_SUCH_PLACE: Fault = Fault {
-    refusal: Refusal::NoSuchPlace,
-    layer: Layer::List,
-    place: 0,
-};
-
-// A deposit, and what it wrote, copied out of the memory.
-fn tell<T: Top, U: Cover>(
-    top: &T,
-    cover: &U,
-    classes: &mut [ClassMargin],
-    matches: &mut List<'_, Match>,
-) -> Result<Telling, Fault>
-    ensures lender { lender matches.new ≡ lender matches.old }
-    ensures right { Right (length classes.old) (length (memory matches.old)) (U.Cover.under cover.now) (with_additions (U.Cover.additions cover.now) (U.Cover.under cover.now)) (tally_nets (T.Top.tally top.now)) result }
-    ensures written { memory_of classes.new matches.new ≡ answered_into (memory_of classes.old matches.old) result }
-    ensures room { length (memory matches.new) ≡ length (memory matches.old) }
-{
-    match deposit(top, cover, classes, matches) {
-        Ok(summary) => Ok(Telling::of(summary, classes, matches)),
-        Err(fault) => Err(fault),
-    }
-}
-
-// One step at the two tops, and what it gave.
-fn take_step<T: Top, U: Cover>(
-    top: &mut T,
-    cover: &mut U,
-    step: &Step<T::Own, U::Own>,
-    classes: &mut [ClassMargin],
-    matches: &mut List<'_, Match>,
-) -> Entry
-    ensures lender { lender matches.new ≡ lender matches.old }
-    ensures fits { Fits T.Top.rules U.Cover.means (U.Cover.under cover.old) (length classes.old) (length (memory matches.old)) (tally (T.Top.tally top.old) (U.Cover.additions cover.old)) step.now result }
-    ensures noted { tally (T.Top.tally top.new) (U.Cover.additions cover.new) ≡ noted T.Top.rules U.Cover.means (tally (T.Top.tally top.old) (U.Cover.additions cover.old)) step.now result }
-    ensures under { U.Cover.under cover.new ≡ U.Cover.under cover.old }
-    ensures written { memory_of classes.new matches.new ≡ entered_into (memory_of classes.old matches.old) result }
-    ensures room { length (memory matches.new) ≡ length (memory matches.old) }
-{
-    match step {
-        Step::Book(call) => Entry::Done(top.call(call)),
-        Step::Sheet(own) => Entry::Done(call_own(cover, own)),
-        Step::Deposit => Entry::Told(tell(top, cover, classes, matches)),
-    }
-}
-
 // One entry more, in a log that has a place for it.
+// Kept: as a method of `List` it would serve deposits too, but it requires room, and public calls ask nothing of their callers
+// (a rule of the project).
 fn note(log: &mut List<'_, Entry>, entry: Entry)
     requires { length (items log.old) < length (memory log.old) }
     ensures lender { lender log.new ≡ lender log.old }
     ensures noted { Appended entry log.old log.new }
 {
-    match log.append(entry) {
-        Ok(()) => {}
-        Err(_) => unreachable(),
-    }
+    log.append(entry).unwrap()
 }
 
-// Takes each step of the script and appends what it gave.
-fn run<T: Top, U: Cover>(
-    top: &mut T,
-    cover: &mut U,
-    script: &[Step<T::Own, U::Own>],
-    classes: &mut [ClassMargin],
-    matches: &mut List<'_, Match>,
-    log: &mut List<'_, Entry>,
-)
-    requires empty { items log.old ≡ [] }
-    requires room { length script.now ≤ length (memory log.old) }
-    ensures log { lender log.new ≡ lender log.old }
-    ensures matches { lender matches.new ≡ lender matches.old }
-    ensures history { History T.Top.rules U.Cover.means (U.Cover.under cover.old) (length classes.old) (length (memory matches.old)) (tally (T.Top.tally top.old) (U.Cover.additions cover.old)) script.now (items log.new) (tally (T.Top.tally top.new) (U.Cover.additions cover.new)) }
-    ensures under { U.Cover.under cover.new ≡ U.Cover.under cover.old }
-    ensures written { memory_of classes.new matches.new ≡ written_by (items log.new) (memory_of classes.old matches.old) }
-    ensures past { drop (length script.now) (memory log.new) ≡ drop (length script.now) (memory log.old) }
-{
-    for step in script {
-        let entry = take_step(top, cover, step, classes, matches);
-        note(log, entry);
+// The tops of the two piles, at which the calls of a script are made.
+struct Tops<T, U> {
+    top: T,
+    cover: U,
+}
+
+// Kept: script, log and the two memories of a deposit stand side by side, since a struct of these borrows is no plainer: each
+// contract would also have to say that it still borrows all of them.
+impl<T: Top, U: Cover> Tops<T, U> {
+    // A deposit, and what it wrote, copied out of the memory.
+    fn tell(
+        &self,
+        classes: &mut [ClassMargin],
+        matches: &mut List<'_, Match>,
+    ) -> Result<Telling, Fault>
+        ensures lender { lender matches.new ≡ lender matches.old }
+        ensures right { Right (length classes.old) (length (memory matches.old)) (U.Cover.under self.now.cover) (with_additions (U.Cover.additions self.now.cover) (U.Cover.under self.now.cover)) (tally_nets (T.Top.tally self.now.top)) result }
+        ensures written { memory_of classes.new matches.new ≡ answered_into (memory_of classes.old matches.old) result }
+        ensures room { length (memory matches.new) ≡ length (memory matches.old) }
+    {
+        let summary = deposit(&self.top, &self.cover, classes, matches)?;
+        Ok(Telling::of(summary, classes, matches.records()))
+    }
+
+    // One step at the two tops, and what it gave.
+    fn take_step(
+        &mut self,
+        step: &Step<T::Own, U::Own>,
+        classes: &mut [ClassMargin],
+        matches: &mut List<'_, Match>,
+    ) -> Entry
+        ensures lender { lender matches.new ≡ lender matches.old }
+        ensures fits { Fits T.Top.rules U.Cover.means (U.Cover.under self.old.cover) (length classes.old) (length (memory matches.old)) (tally (T.Top.tally self.old.top) (U.Cover.additions self.old.cover)) step.now result }
+        ensures noted { tally (T.Top.tally self.new.top) (U.Cover.additions self.new.cover) ≡ noted T.Top.rules U.Cover.means (tally (T.Top.tally self.old.top) (U.Cover.additions self.old.cover)) step.now result }
+        ensures under { U.Cover.under self.new.cover ≡ U.Cover.under self.old.cover }
+        ensures written { memory_of classes.new matches.new ≡ entered_into (memory_of classes.old matches.old) result }
+        ensures room { length (memory matches.new) ≡ length (memory matches.old) }
+    {
+        // Kept: a script is data that callers write down and log; closures could not be compared with the tally.
+        match step {
+            Step::Book(call) => Entry::Done(self.top.call(call)),
+            Step::Sheet(own) => Entry::Done(call_own(&mut self.cover, own)),
+            Step::Deposit => Entry::Told(self.tell(classes, matches)),
+        }
+    }
+
+    // Takes each step of the script and appends what it gave.
+    fn run(
+        &mut self,
+        script: &[Step<T::Own, U::Own>],
+        classes: &mut [ClassMargin],
+        matches: &mut List<'_, Match>,
+        log: &mut List<'_, Entry>,
+    )
+        requires empty { items log.old ≡ [] }
+        requires room { length script.now ≤ length (memory log.old) }
+        ensures log { lender log.new ≡ lender log.old }
+        ensures matches { lender matches.new ≡ lender matches.old }
+        ensures history { History T.Top.rules U.Cover.means (U.Cover.under self.old.cover) (length classes.old) (length (memory matches.old)) (tally (T.Top.tally self.old.top) (U.Cover.additions self.old.cover)) script.now (items log.new) (tally (T.Top.tally self.new.top) (U.Cover.additions self.new.cover)) }
+        ensures under { U.Cover.under self.new.cover ≡ U.Cover.under self.old.cover }
+        ensures written { memory_of classes.new matches.new ≡ written_by (items log.new) (memory_of classes.old matches.old) }
+        ensures past { drop (length script.now) (memory log.new) ≡ drop (length script.now) (memory log.old) }
+    {
+        for step in script {
+            let entry = self.take_step(step, classes, matches);
+            note(log, entry);
+        }
     }
 }
 
 // Opens both tops, and makes the calls.
+// Kept: as `replay`: memory is handed in (a rule of the project), and each of the six is of a kind of its own.
 fn begin<T: Top, U: Cover>(
     book: T::Below,
     sheet: U::Below,
@@ -129,16 +126,19 @@ fn begin<T: Top, U: Cover>(
     ensures matches { lender matches.new ≡ lender matches.old }
 {
     log.clear();
-    let mut top = T::open(book);
-    let mut cover = U::open(sheet);
-    run(&mut top, &mut cover, script, classes, matches, log);
+    let mut tops: Tops<T, U> = Tops {
+        top: T::open(book),
+        cover: U::open(sheet),
+    };
+    tops.run(script, classes, matches, log);
+    let Tops { top, cover } = tops;
     (top, cover)
 }
 
-// Opens a top above a book and one above a sheet, and makes the calls of a script at them, one by one. The log then has
-// one entry a call, and is a history: each entry is what the tally of those before it decides, and every deposit that is
-// told keeps to the demands. Where every net of the book is 0, the tally begins with nothing kept, nothing on trial and
-// nothing added. Where the log has too few places no call is made, and the book and the sheet are given back.
+// Opens a top above a book and one above a sheet, and makes the calls of a script at them. The log is then a history: one
+// entry a call, as the tally of those before it decides, and each deposit told is what a deposit promises. Over a book whose
+// nets are 0 the tally begins blank. Where the log has too few places no call is made, and book and sheet are given back.
+// Kept: memory is handed in (a rule of the project), and each of the six is of a kind of its own.
 pub fn replay<T: Top, U: Cover>(
     book: T::Below,
     sheet: U::Below,

@@ -13,6 +13,8 @@ pub enum Step<O, P> {
 }
 
 // What a step gave.
+// Kept: each kind of step has an answer of its own type, which is held as it was given; one Result for both would have to be
+// taken apart and made anew for each, and a tally that decides `Result<(), Fault>` could not be compared with it.
 #[derive(Clone, Copy)]
 pub enum Entry {
     Done(Result<(), Fault>),

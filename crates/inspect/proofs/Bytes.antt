@@ -1,6 +1,8 @@
 -- The kind byte of a line, and how many lines have it. Assumes nothing.
-use Rattle.std.proofs.Common.{◌≡◌, ℕ, ◌+◌, ◌≤◌, Bool, true, false, cond, eqb, List, [], ◌∷◌, length, take, drop, Some, None, Option, sym, refl, ap, ◌∙◌, arith}
-use Rattle.std.proofs.lemmas.Bool.{eq-eqb, ne_eqb}
+use Rattle.std.proofs.Common.{◌≡◌, ℕ, ◌+◌, cond, eqb, List, [], ◌∷◌, length, take, drop, Some, None, Ok, Err, Option, Result, MatchOption, sym, refl, ap, ◌∙◌, arith}
+use Rattle.std.proofs.lemmas.List.Sums.{sum_by-cons}
+use Rattle.std.specs.Option.{IsSomeAnd}
+use Rattle.std.specs.Result.{result_ok}
 use Rattle.terms.specs.declared.fault.Fault.{Fault}
 use Rattle.terms.specs.declared.layer.Layer.TheVariants.{Frame}
 use Rattle.terms.specs.declared.refusal.Refusal.{Refusal}
@@ -12,28 +14,29 @@ use Rattle.frames.specs.Frames.{hexadecimal, kind_refusal, line_refusal}
 use Rattle.frames.specs.Hex.{number_of}
 use Rattle.frames.specs.Kinds.{Kind, all_kinds, find_kind}
 use Rattle.lines.specs.declared.frame_line.FrameLine.{FrameLine}
-use Rattle.lines.specs.FrameLines.{Framed, kind_of}
-use Rattle.inspect.specs.Counts.{byte_told, line_byte, count_of}
+use Rattle.lines.specs.FrameLines.{Framed, Tells, kind_of}
+use Rattle.inspect.specs.declared.told.Told.{Told}
+use Rattle.inspect.specs.Counts.{byte_of, byte_told, told_byte, line_byte, count_of}
 
-pub byte_framed : (line : List ℕ) (at : ℕ) (frame other : FrameLine) → Framed line at frame → frame ≡ other → (kind_of other).byte ≡ line_byte line
-byte_framed line at frame other framed same =
-    sym (ap (λ f. (kind_of f).byte) same) ∙ sym (found_byte all_kinds (number_of (take 2 line)) (kind_of frame) framed.kind)
+byte_framed : (line : List ℕ) (at : ℕ) (frame : FrameLine) → Framed line at frame → (kind_of frame).byte ≡ line_byte line
+byte_framed line at frame framed =
+    sym (found_byte all_kinds (number_of (take 2 line)) (kind_of frame) framed.kind)
     ∙ sym (ap (λ o. byte_told o (number_of (take 2 line))) framed.passes)
 
 by_refusal : (o : Option Refusal) (byte : ℕ) (f : Fault) → Some f ≡ fault_of Frame 0 o → 0 ≡ byte_told o byte
 by_refusal None byte f e = let z : ◌≡◌ {A = ℕ} 0 1 = cc in absurd (omega arith)
 by_refusal (Some refusal) byte f e = refl
 
-pub byte_refused : (line : List ℕ) (f : Fault) → Some f ≡ fault_of Frame 0 (line_refusal all_kinds line) → 0 ≡ line_byte line
-byte_refused line f e = by_refusal (line_refusal all_kinds line) (number_of (take 2 line)) f e
-
-one_at_most : (b : Bool) → cond {A = ℕ} b 1 0 ≤ 1
-one_at_most true = omega arith
-one_at_most false = omega arith
-
-pub count_few : (byte : ℕ) (lines : List (List ℕ)) → count_of byte lines ≤ length lines
-count_few byte [] = omega arith
-count_few byte (line ∷ lines) = omega (arith, one_at_most (eqb (line_byte line) byte), count_few byte lines)
+-- what a line is told as has its byte
+pub told_line : (line : List ℕ) (at : ℕ) (r : Result FrameLine Fault) (o : Option FrameLine) (t : Option Told) → Tells line at r → o ≡ result_ok r
+    → MatchOption o (t ≡ None) (λ frame. IsSomeAnd t (λ told. byte_of told ≡ (kind_of frame).byte)) → told_byte t ≡ line_byte line
+told_line line at (Ok frame) None t tells is e = let z : ◌≡◌ {A = ℕ} 0 1 = cc in absurd (omega arith)
+told_line line at (Ok frame) (Some other) None tells is e = absurd e
+told_line line at (Ok frame) (Some other) (Some told) tells is e =
+    let same : frame ≡ other = cc in
+    e ∙ sym (ap (λ f. (kind_of f).byte) same) ∙ byte_framed line at frame tells
+told_line line at (Err f) None t tells is e = ap told_byte e ∙ by_refusal (line_refusal all_kinds line) (number_of (take 2 line)) f tells
+told_line line at (Err f) (Some other) t tells is e = let z : ◌≡◌ {A = ℕ} 0 1 = cc in absurd (omega arith)
 
 -- how many of the eight bytes this one is
 abbrev ways : ℕ → ℕ
@@ -57,17 +60,14 @@ line_once : (line : List ℕ) (o : Option Refusal) → line_refusal all_kinds li
 line_once line None e = passed_once line e
 line_once line (Some refusal) e = refl
 
+-- one line more
+counted_more : (byte : ℕ) (line : List ℕ) (lines : List (List ℕ)) → count_of byte (line ∷ lines) ≡ cond (eqb (line_byte line) byte) 1 0 + count_of byte lines
+counted_more byte line lines = sum_by-cons (λ l. cond (eqb (line_byte l) byte) 1 0) line lines
+
 -- each line is counted once
 pub counted_once : (lines : List (List ℕ)) →
     count_of 0x43 lines + count_of 0x53 lines + count_of 0x50 lines + count_of 0x42 lines + count_of 0x44 lines + count_of 0x54 lines + count_of 0x46 lines + count_of 0 lines ≡ length lines
 counted_once [] = refl
-counted_once (line ∷ lines) = omega (arith, line_once line (line_refusal all_kinds line) refl, counted_once lines)
-
-module _ (byte told : ℕ) (line : List ℕ) (lines rest : List (List ℕ)) (first : lines ≡ line ∷ rest) (is : told ≡ line_byte line) where
-  -- a line of the byte counts
-  pub count_hit : told ≡ byte → count_of byte lines ≡ 1 + count_of byte rest
-  count_hit same = ap (count_of byte) first ∙ ap (λ b. cond {A = ℕ} b 1 0 + count_of byte rest) (eq-eqb (line_byte line) byte (sym is ∙ same))
-
-  -- and another does not
-  pub count_miss : (told ≡ byte → ⊥) → count_of byte lines ≡ count_of byte rest
-  count_miss other = ap (count_of byte) first ∙ ap (λ b. cond {A = ℕ} b 1 0 + count_of byte rest) (ne_eqb (line_byte line) byte (λ e. other (is ∙ e))) ∙ omega arith
+counted_once (line ∷ lines) =
+    let more : (byte : ℕ) → count_of byte (line ∷ lines) ≡ cond (eqb (line_byte line) byte) 1 0 + count_of byte lines = λ byte. counted_more byte line lines in
+    omega (arith, line_once line (line_refusal all_kinds line) refl, counted_once lines, more 0x43, more 0x53, more 0x50, more 0x42, more 0x44, more 0x54, more 0x46, more 0)

@@ -1,13 +1,13 @@
 -- How many lines of a text are frames of each kind, and how many are refused. Assumes nothing.
-use Rattle.std.specs.Prelude.{ℕ, ◌+◌, cond, List, [], ◌∷◌, take, Some, None, Option, ◌==◌}
+use Rattle.std.specs.Prelude.{ℕ, List, take, Some, None, Option, ◌==◌, count_by}
 use Rattle.terms.specs.declared.refusal.Refusal.{Refusal}
 use Rattle.frames.specs.Frames.{line_refusal}
 use Rattle.frames.specs.Hex.{number_of}
 use Rattle.frames.specs.Kinds.{all_kinds}
 use Rattle.inspect.specs.declared.told.Told.{Told}
-use Rattle.inspect.specs.declared.told.Told.TheVariants.{Class, Security, Pair, Booking, Deposit, Total, Fault, Refused}
+use Rattle.inspect.specs.declared.told.Told.TheVariants.{Class, Security, Pair, Booking, Deposit, Total, Fault}
 
--- the kind byte of what a line is told as, and 0 of a refused line
+-- the kind byte of a kind of frame
 abbrev pub byte_of : Told → ℕ
 byte_of Class = 0x43
 byte_of Security = 0x53
@@ -16,7 +16,11 @@ byte_of Booking = 0x42
 byte_of Deposit = 0x44
 byte_of Total = 0x54
 byte_of Fault = 0x46
-byte_of Refused = 0
+
+-- the kind byte of what a line is told as, and 0 of a refused line
+abbrev pub told_byte : Option Told → ℕ
+told_byte None = 0
+told_byte (Some told) = byte_of told
 
 abbrev pub byte_told : Option Refusal → ℕ → ℕ
 byte_told None byte = byte
@@ -28,5 +32,4 @@ line_byte line = byte_told (line_refusal all_kinds line) (number_of (take 2 line
 
 -- how many of the lines have this byte
 abbrev pub count_of : ℕ → List (List ℕ) → ℕ
-count_of byte [] = 0
-count_of byte (line ∷ lines) = cond (line_byte line == byte) 1 0 + count_of byte lines
+count_of byte lines = count_by (λ line. line_byte line == byte) lines

@@ -7,20 +7,18 @@ use lines::part::Part;
 use lines::reader::LineReader;
 use lines::text::check_length;
 use std::io;
-use terms::fault::Fault;
-use wording::refusals::RefusalWords;
 
 // Prints what one line is, or why it is refused.
 fn say_line(rt: &HostRuntime, number: usize, line: Part<'_>) -> io::Result<()> {
     let place = line.place;
-    match FrameLine::of_line(line) {
+    match FrameLine::try_from(line) {
         Ok(frame) => {
             let words = Spoken(frame);
             println!(rt; "line {number}, byte {place}: {words}")
         }
         Err(fault) => {
-            let refusal = fault.refusal.number();
-            let words = RefusalWords(fault.refusal);
+            let refusal = u8::from(fault.refusal);
+            let words = fault.refusal;
             println!(rt; "line {number}, byte {place}: refused with {refusal}: {words}")
         }
     }
@@ -38,26 +36,13 @@ fn say_totals(rt: &HostRuntime, totals: &Totals) -> io::Result<()> {
     println!(rt; "refused: {}", totals.refused)
 }
 
-// The frame that tells a fault of a whole text.
-fn whole_text_fault(fault: Fault) -> FaultRecord {
-    FaultRecord {
-        number: fault.refusal.number(),
-        layer: fault.layer.number(),
-        line: 0,
-        place: fault.place,
-    }
-}
-
 // Says each line of a text and the totals, or why the text is refused.
 pub(crate) fn report(rt: &HostRuntime, text: &[u8]) -> io::Result<()> {
     if let Err(fault) = check_length(text) {
-        let item = Words(whole_text_fault(fault));
+        let item = Words(FaultRecord::from(fault));
         return println!(rt; "{item}");
     }
-    let mut reader = LineReader::new(text);
-    let mut number = 0usize;
-    while let Some(line) = reader.next_line() {
-        number = number.saturating_add(1);
+    for (number, line) in (1..).zip(LineReader::new(text)) {
         say_line(rt, number, line)?;
     }
     say_totals(rt, &count_all(text))

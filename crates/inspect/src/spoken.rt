@@ -10,24 +10,20 @@ use frames::record::{
 use lines::frame_line::FrameLine;
 use lines::part::Part;
 use std::fmt;
-use terms::choice::{ClassKind, Side};
 use terms::fault::Fault;
 use terms::layer::Layer;
 use terms::refusal::Refusal;
-use wording::refusals::{LayerWords, RefusalWords};
 use wording::units::{Duration, Money, Percent, Price};
 
 // A record in plain words.
+// Kept: the records are of the crate frames, whose Display this crate may not write, so that a type around them prints.
 #[derive(Drop)]
 pub struct Words<R>(pub R);
 
 impl fmt::Display for Words<ClassRecord> {
     fn fmt<W: fmt::Write>(&self, f: &mut fmt::Formatter<W>) -> fmt::Result {
         let class = self.0.class;
-        let kind = match self.0.kind {
-            ClassKind::Liquidity => "liquidity",
-            ClassKind::Duration => "duration",
-        };
+        let kind = self.0.kind;
         let y = Percent(self.0.y);
         let x = Percent(self.0.x);
         let dep = Percent(self.0.dep);
@@ -61,10 +57,7 @@ impl fmt::Display for Words<PairRecord> {
 impl fmt::Display for Words<BookingRecord> {
     fn fmt<W: fmt::Write>(&self, f: &mut fmt::Formatter<W>) -> fmt::Result {
         let security = self.0.security;
-        let side = match self.0.side {
-            Side::Bought => "bought",
-            Side::Sold => "sold",
-        };
+        let side = self.0.side;
         let quantity = self.0.quantity;
         write!(f, "booking of security {security}, {side} {quantity}")
     }
@@ -105,14 +98,12 @@ impl fmt::Display for Words<FaultRecord> {
         let line = self.0.line;
         let place = self.0.place;
         write!(f, "fault: refusal {number}")?;
-        if let Some(refusal) = Refusal::from_number(number) {
-            let words = RefusalWords(refusal);
-            write!(f, " ({words})")?;
+        if let Ok(refusal) = Refusal::try_from(number) {
+            write!(f, " ({refusal})")?;
         }
         write!(f, ", layer {layer}")?;
-        if let Some(layer) = Layer::from_number(layer) {
-            let words = LayerWords(layer);
-            write!(f, " ({words})")?;
+        if let Ok(layer) = Layer::try_from(layer) {
+            write!(f, " ({layer})")?;
         }
         write!(f, ", line {line}, place {place}")
     }

@@ -1,38 +1,28 @@
 // What a line is, by its kind.
-ghost use Rattle.std.specs.Prelude.{◌≡◌};
-ghost use Rattle.inspect.specs.Counts.{byte_of, line_byte};
+ghost use Rattle.std.specs.Prelude.{◌≡◌, ◌==◌};
+ghost use Rattle.inspect.specs.Counts.{byte_of, line_byte, told_byte};
+ghost use Rattle.lines.specs.FrameLines.{kind_of};
 
 use lines::frame_line::FrameLine;
 use lines::part::Part;
 
-// A case for each kind of frame, by its kind byte, and one for refused lines.
-#[derive(Clone, Copy)]
+// A case for each kind of frame.
+#[derive(Clone, Copy, PartialEq, Eq)]
 pub enum Told {
-    Class = 0x43,
-    Security = 0x53,
-    Pair = 0x50,
-    Booking = 0x42,
-    Deposit = 0x44,
-    Total = 0x54,
-    Fault = 0x46,
-    Refused = 0,
+    Class,
+    Security,
+    Pair,
+    Booking,
+    Deposit,
+    Total,
+    Fault,
 }
 
-impl Told {
-    // The kind byte, and 0 for a refused line.
-    pub fn byte(self) -> u8
-        ensures { result ≡ byte_of self }
-    {
-        self as u8
-    }
-}
+impl From<FrameLine<'_>> for Told {
+    ghost from_gives = { λ frame told. byte_of told ≡ (kind_of frame).byte };
 
-// What a line is told as.
-pub fn told_as(line: Part<'_>) -> Told
-    ensures { byte_of result ≡ line_byte line.entry.digits.now }
-{
-    match FrameLine::of_line(line) {
-        Ok(frame) => match frame {
+    fn from(frame: FrameLine<'_>) -> Told {
+        match frame {
             FrameLine::Class(_) => Told::Class,
             FrameLine::Security(_) => Told::Security,
             FrameLine::Pair(_) => Told::Pair,
@@ -40,7 +30,20 @@ pub fn told_as(line: Part<'_>) -> Told
             FrameLine::Deposit(_) => Told::Deposit,
             FrameLine::Total(_) => Told::Total,
             FrameLine::Fault(_) => Told::Fault,
-        },
-        Err(_) => Told::Refused,
+        }
     }
+}
+
+// What a line is told as; none where it is refused.
+pub fn told_as(line: Part<'_>) -> Option<Told>
+    ensures { told_byte result ≡ line_byte line.entry.digits.now }
+{
+    FrameLine::try_from(line).ok().map(Told::from)
+}
+
+// Whether a line is told as `sought`.
+pub fn is_told_as(line: Part<'_>, sought: Option<Told>) -> bool
+    ensures { result ≡ (line_byte line.entry.digits.now == told_byte sought) }
+{
+    told_as(line) == sought
 }

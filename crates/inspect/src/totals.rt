@@ -1,10 +1,10 @@
 // How many lines of a text are frames of each kind.
 ghost use Rattle.std.specs.Prelude.{◌≡◌, length};
 ghost use Rattle.lines.specs.Lines.{lines_of};
-ghost use Rattle.inspect.specs.Counts.{byte_of, count_of};
+ghost use Rattle.inspect.specs.Counts.{count_of, told_byte};
 ghost use Rattle.inspect.specs.Sums.{Counted};
 
-use crate::told::{Told, told_as};
+use crate::told::{Told, is_told_as};
 use lines::reader::LineReader;
 
 #[derive(Clone, Copy)]
@@ -20,30 +20,20 @@ pub struct Totals {
     pub refused: usize,
 }
 
-// How many lines are told as `sought`.
-fn count(text: &[u8], sought: Told) -> usize
-    ensures { result ≡ count_of (byte_of sought) (lines_of text.now) }
+// How many lines are told as `sought`, and how many are refused where it is none.
+fn count(text: &[u8], sought: Option<Told>) -> usize
+    ensures { result ≡ count_of (told_byte sought) (lines_of text.now) }
 {
-    let mut reader = LineReader::new(text);
-    let mut found = 0;
-    while let Some(line) = reader.next_line() {
-        if told_as(line).byte() == sought.byte() {
-            found += 1;
-        }
-    }
-    found
+    LineReader::new(text)
+        .filter(|line| is_told_as(*line, sought))
+        .count()
 }
 
 // How many lines there are.
 fn count_lines(text: &[u8]) -> usize
     ensures { result ≡ length (lines_of text.now) }
 {
-    let mut reader = LineReader::new(text);
-    let mut found = 0;
-    while let Some(_) = reader.next_line() {
-        found += 1;
-    }
-    found
+    LineReader::new(text).count()
 }
 
 // The counts of a text, by kind. They add up to its lines.
@@ -52,13 +42,13 @@ pub fn count_all(text: &[u8]) -> Totals
 {
     Totals {
         lines: count_lines(text),
-        classes: count(text, Told::Class),
-        securities: count(text, Told::Security),
-        pairs: count(text, Told::Pair),
-        bookings: count(text, Told::Booking),
-        deposits: count(text, Told::Deposit),
-        totals: count(text, Told::Total),
-        faults: count(text, Told::Fault),
-        refused: count(text, Told::Refused),
+        classes: count(text, Some(Told::Class)),
+        securities: count(text, Some(Told::Security)),
+        pairs: count(text, Some(Told::Pair)),
+        bookings: count(text, Some(Told::Booking)),
+        deposits: count(text, Some(Told::Deposit)),
+        totals: count(text, Some(Told::Total)),
+        faults: count(text, Some(Told::Fault)),
+        refused: count(text, None),
     }
 }

@@ -4,7 +4,8 @@ use Rattle.terms.specs.declared.choice.ClassKind.{ClassKind}
 use Rattle.terms.specs.declared.choice.ClassKind.TheVariants.{Liquidity, Duration}
 use Rattle.terms.specs.declared.choice.Side.{Side}
 use Rattle.terms.specs.declared.choice.Side.TheVariants.{Bought, Sold}
-use Rattle.frames.specs.Choices.{class_kind_byte_lem, side_byte_lem, is_choice}
+use Rattle.terms.specs.Choices.{class_kind_byte, side_byte, signed}
+use Rattle.frames.specs.Choices.{is_choice}
 use Rattle.frames.specs.Frames.{line_refusal}
 use Rattle.frames.specs.Kinds.{all_kinds, class_kind, security_kind, pair_kind, booking_kind}
 use Rattle.frames.specs.Records.{class_figures, security_figures, pair_figures, booking_figures}
@@ -14,16 +15,16 @@ use Rattle.frames.proofs.Reading.{line_pass}
 use Rattle.frames.proofs.Sound.{sound}
 use Rattle.frames.specs.Texts.{numbers_text}
 use Rattle.frames.specs.Told.{class_told, security_told, pair_told, booking_told}
-use Rattle.entries.specs.Entries.{row_entry, booking_entry, listed_class, listed_security, listed_pair, quantity_of, signed, entry_of}
+use Rattle.entries.specs.Entries.{row_entry, booking_entry, listed_class, listed_security, listed_pair, quantity_of, entry_of}
 use Rattle.entries.proofs.Bringing.{class_listed, booking_quantity}
 use Rattle.intake.specs.Listings.{RowRecord, class_record, security_record, pair_record, row_frame, booking_frame}
 use Rattle.intake.proofs.Listed.{row_of}
 
-kind_chosen : (kind : ClassKind) → is_choice (class_kind_byte_lem kind) ≡ true
+kind_chosen : (kind : ClassKind) → is_choice (class_kind_byte kind) ≡ true
 kind_chosen Liquidity = refl
 kind_chosen Duration = refl
 
-side_chosen : (side : Side) → is_choice (side_byte_lem side) ≡ true
+side_chosen : (side : Side) → is_choice (side_byte side) ≡ true
 side_chosen Bought = refl
 side_chosen Sold = refl
 

@@ -2,8 +2,9 @@ mod Classes
 mod Framed
 mod Listed
 mod Memories
+mod Placing
 mod Runs
-mod Steps
 mod Texts
 mod Told
 mod Yielding
+mod Whole

@@ -14,7 +14,8 @@ use Rattle.books.specs.Totals.{total}
 use Rattle.books.proofs.Sums.{total_books}
 use Rattle.positions.specs.Questions.{or_else}
 use Rattle.entries.specs.Desks.{with_row}
-use Rattle.entries.specs.Entries.{Row, of_class, of_security, of_pair, signed}
+use Rattle.terms.specs.Choices.{signed}
+use Rattle.entries.specs.Entries.{Row, of_class, of_security, of_pair}
 use Rattle.intake.specs.Listings.{RowRecord, class_record, security_record, pair_record, class_of, security_of, pair_of, booking_of, for_class, for_security, as_pair, listed, sheet_of, nets_of, row_refusal}
 
 -- the row of a record

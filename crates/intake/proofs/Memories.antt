@@ -1,11 +1,11 @@
 -- Lines at the front of a memory. Assumes nothing.
-use Rattle.std.proofs.Common.{◌≡◌, ℕ, ◌+◌, ◌-◌, ◌<◌, List, [], ◌∷◌, ◌++◌, length, take, drop, None, Ok, Err, sym, refl, ap, ◌∙◌, arith, length-append, length-drop}
+use Rattle.std.proofs.Common.{◌≡◌, ℕ, ◌+◌, ◌-◌, ◌<◌, ◌≤◌, List, [], ◌∷◌, ◌++◌, length, take, drop, None, Ok, sym, refl, ap, ◌∙◌, arith, length-append, length-drop}
 use borrow.Rule.Slice.PartMut.{put_mid}
 use Rattle.std.proofs.lemmas.List.{append_assoc, append-nil, drop_all, drop_at, drop-drop, take_at, take_rest}
 use Rattle.std.proofs.lemmas.Bool.{lt-ltb, cond-true}
-use Rattle.terms.specs.declared.fault.Fault.{Fault}
 use Rattle.terms.specs.declared.layer.Layer.TheVariants.{Frame}
 use Rattle.terms.specs.declared.refusal.Refusal.TheVariants.{LineMemoryTooShort}
+use Rattle.terms.specs.Limits.{answer_memory}
 use Rattle.terms.specs.Questions.{ask, answer}
 use Rattle.frames.specs.Written.{written, written_answer}
 use Rattle.lines.specs.Lines.{fed}
@@ -25,9 +25,6 @@ module _ (line memory : List ℕ) (room : length line < length memory) where
   answers : written_answer line memory ≡ Ok (length line + 1)
   answers = ap (λ b. answer Frame 0 (length line + 1) (ask b LineMemoryTooShort None)) (lt-ltb (length line) (length memory) room)
 
-  pub never_short : (f : Fault) → Err f ≡ written_answer line memory → ⊥
-  never_short f e = let a = answers in let z : ◌≡◌ {A = ℕ} 0 1 = cc in omega arith
-
   pub one_line : (count : ℕ) (after : List ℕ) → Ok count ≡ written_answer line memory → after ≡ written line memory → Fills (line ∷ []) memory count after
   one_line count after told is =
       let a = answers in
@@ -35,6 +32,10 @@ module _ (line memory : List ℕ) (room : length line < length memory) where
         told = counted ∙ sym (length_one line);
         memory = is ∙ cond-true _ _ memory (lt-ltb (length line) (length memory) room) ∙ sym (append_assoc line (10 ∷ []) (drop (length line + 1) memory)) ∙ ap (λ n. fed (line ∷ []) ++ drop n memory) (sym counted);
       }
+
+-- what fills the places of an answer is no more than they are
+pub fits : (lines : List (List ℕ)) (before after : List ℕ) (count : ℕ) → Fills lines before count after → length before ≡ answer_memory → length after ≡ answer_memory → count ≤ answer_memory
+fits lines before after count h long kept = omega (arith, h.told, ap length h.memory, length-append (fed lines) (drop count before), length-drop count before, long, kept)
 
 -- no line
 pub no_line : (memory : List ℕ) → Fills [] memory 0 memory

@@ -4,6 +4,7 @@ use Rattle.std.proofs.lemmas.List.{append-nil, append_assoc, length_push}
 use Rattle.terms.specs.declared.layer.Layer.TheVariants.{Frame, Sheet, Book}
 use Rattle.terms.specs.Limits.{booking_limit}
 use Rattle.terms.specs.Questions.{ask, fault_of}
+use Rattle.terms.specs.Choices.{signed}
 use Rattle.frames.specs.Frames.{line_refusal}
 use Rattle.frames.specs.Kinds.{all_kinds}
 use Rattle.frames.specs.declared.record.BookingRecord.{BookingRecord}
@@ -13,9 +14,9 @@ use Rattle.positions.specs.Questions.{or_else}
 use Rattle.entries.specs.declared.intake.Stage.{Stage}
 use Rattle.entries.specs.declared.intake.Stage.TheVariants.{Rows as InRows, Bookings as InBookings}
 use Rattle.entries.specs.Desks.{Desk, entry_fault, in_order, line_fault_lem, out_of_order, row_fault, with_brought, with_line}
-use Rattle.entries.specs.Entries.{Entry, booking_entry, entry_of, row_entry, signed}
+use Rattle.entries.specs.Entries.{Entry, booking_entry, entry_of, row_entry}
 use Rattle.intake.specs.Listings.{RowRecord, class_record, security_record, pair_record, row_frame, booking_frame, row_refusal, sheet_of, nets_of, RowsAccepted, BookingsAccepted}
-use Rattle.intake.specs.Reading.{after_lines, or_later}
+use Rattle.entries.specs.Reading.{after_lines, or_later}
 use Rattle.intake.proofs.Framed.{row_passes, row_brings, booking_passes, booking_brings}
 use Rattle.intake.proofs.Listed.{row_of, sheet_push, lawful_push, nets_push}
 

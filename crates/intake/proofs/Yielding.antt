@@ -5,6 +5,7 @@ use Rattle.frames.specs.Records.{class_figures, security_figures, pair_figures, 
 use Rattle.frames.specs.declared.record.BookingRecord.{BookingRecord}
 use Rattle.frames.specs.Numbers.{Hex}
 use Rattle.lines.specs.Lines.{lines_of}
+use Rattle.rules.specs.Laws.{Matching}
 use Rattle.rules.specs.Rows.{Every}
 use Rattle.rules.specs.Margin.{rounded}
 use Rattle.rules.proofs.Accuracy.{accuracy}
@@ -16,7 +17,7 @@ use Rattle.entries.specs.Desks.{opened}
 use Rattle.intake.specs.Answering.{answer_lines, deposit_lines, margin_lines, text_lines}
 use Rattle.intake.specs.Filling.{Fills}
 use Rattle.intake.specs.Listings.{RowRecord, class_record, security_record, pair_record, row_frame, booking_frame, sheet_of, nets_of, TextOf, RowsAccepted, BookingsAccepted}
-use Rattle.intake.specs.Reading.{after_lines}
+use Rattle.entries.specs.Reading.{after_lines}
 use Rattle.intake.specs.Yields.{YieldsFrames}
 use Rattle.intake.proofs.Listed.{lawful_none}
 use Rattle.intake.proofs.Runs.{with_bookings, rows_run, rows_lawful, bookings_run}
@@ -58,6 +59,7 @@ module _ (items : List RowRecord) (bookings : List BookingRecord) (text : List �
 -- ---- and so the bytes are the frames of the margin, which keeps its laws
 
 pub yields : (text before : List ℕ) (count : ℕ) (after : List ℕ) → Fills (text_lines text) before count after → YieldsFrames text before count after
+unfolding Matching
 yields text before count after fills = λ items bookings is rows_accepted bookings_accepted passes.
     let rows = sheet_of items in
     let nets = nets_of bookings in

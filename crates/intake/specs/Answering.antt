@@ -15,8 +15,8 @@ use Rattle.rules.specs.Margin.{rounded, DRR, DRS, DSWK, KSPK, DOLR, DSPAN}
 use Rattle.rules.specs.Held.{held_class, securities_held, classes_held, pairs_held}
 use Rattle.positions.specs.Questions.{portfolio_fault}
 use Rattle.entries.specs.Desks.{Desk, opened}
-use Rattle.intake.specs.declared.line_fault.LineFault.{LineFault}
-use Rattle.intake.specs.Reading.{after_lines, in_line}
+use Rattle.entries.specs.declared.line_fault.LineFault.{LineFault}
+use Rattle.entries.specs.Reading.{after_lines, in_line}
 
 -- ---- the lines of an answer
 

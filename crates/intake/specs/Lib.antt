@@ -1,4 +1,3 @@
-pub mod Reading
 pub mod Answering
 pub mod Filling
 pub mod Listings

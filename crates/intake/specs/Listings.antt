@@ -3,6 +3,7 @@ use Rattle.std.specs.Prelude.{◌≡◌, ℕ, ◌-◌, cond, List, [], ◌∷◌
 use Rattle.std.specs.List.{flat_map}
 use Rattle.terms.specs.declared.refusal.Refusal.{Refusal}
 use Rattle.terms.specs.Limits.{booking_limit}
+use Rattle.terms.specs.Choices.{signed}
 use Rattle.frames.specs.Frames.{line_of}
 use Rattle.frames.specs.Kinds.{class_kind, security_kind, pair_kind, booking_kind}
 use Rattle.frames.specs.Records.{class_figures, security_figures, pair_figures, booking_figures}
@@ -20,7 +21,6 @@ use Rattle.books.specs.declared.booking.Booking.{Booking}
 use Rattle.books.specs.Books.{booking_refusal}
 use Rattle.books.specs.Totals.{total}
 use Rattle.positions.specs.Questions.{or_else}
-use Rattle.entries.specs.Entries.{signed}
 
 -- the record of a row
 pub data RowRecord : Type 0 where

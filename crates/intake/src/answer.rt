@@ -19,8 +19,7 @@ pub(crate) const MEMORY_TOO_SHORT: Fault = Fault {
 };
 
 // The answer where there is room for it: a text that is too long is refused.
-fn answer_within(text: &[u8], answer: &mut [u8]) -> Result<usize, Fault>
-    requires { answer_memory ≤ length answer.old }
+fn answer_within(text: &[u8], answer: &mut [u8; ANSWER_MEMORY]) -> Result<usize, Fault>
     ensures told { result ≡ call_answer text.now answer.old }
     ensures memory { answer.new ≡ memory_after text.now answer.old }
     ensures size { IfOk result (λ count. count ≤ answer_memory) }
@@ -31,16 +30,15 @@ fn answer_within(text: &[u8], answer: &mut [u8]) -> Result<usize, Fault>
 }
 
 // Writes the answer to a text at the front of `answer`, and tells how many bytes these are: the frames of the deposit, or
-// the one frame of the first refusal. Refused are an answer memory that is too short, and a text that is too long; the
-// memory is then as it was.
+// that of the first refusal. A memory that is too short and a text that is too long are refused, and nothing is written.
 pub fn answer_text(text: &[u8], answer: &mut [u8]) -> Result<usize, Fault>
     ensures told { result ≡ call_answer text.now answer.old }
     ensures memory { answer.new ≡ memory_after text.now answer.old }
     ensures size { IfOk result (λ count. count ≤ answer_memory) }
     ensures yields { YieldsMargin text.now answer.old result answer.new }
 {
-    if answer.len() < ANSWER_MEMORY {
-        return Err(MEMORY_TOO_SHORT);
-    }
-    answer_within(text, answer)
+    let front = answer
+        .first_chunk_mut::<ANSWER_MEMORY>()
+        .ok_or(MEMORY_TOO_SHORT)?;
+    answer_within(text, front)
 }

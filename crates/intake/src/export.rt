@@ -6,6 +6,7 @@ ghost use Rattle.std.specs.Prelude.{◌≡◌};
 use crate::answer::answer_text;
 
 // Writes the answer to a text, and returns how many bytes these are, or minus the number of the refusal: -36 or -37.
+// Kept: the C interface: C is told one number, a count or a refusal below 0.
 pub fn dolzhivar_margin(text: &[u8], answer: &mut [u8]) -> i64
     ensures told { result ≡ told_in_c (call_answer text.now answer.old) }
     ensures memory { answer.new ≡ memory_after text.now answer.old }
@@ -13,6 +14,6 @@ pub fn dolzhivar_margin(text: &[u8], answer: &mut [u8]) -> i64
 {
     match answer_text(text, answer) {
         Ok(count) => count as i64,
-        Err(fault) => -i64::from(fault.refusal.number()),
+        Err(fault) => -i64::from(u8::from(fault.refusal)),
     }
 }

@@ -3,8 +3,6 @@
 
 pub mod answer;
 pub mod export;
-mod line_fault;
 mod settling;
-mod taking;
 pub mod telling;
 mod writing;

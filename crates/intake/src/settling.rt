@@ -1,28 +1,27 @@
 // The deposit of what an intake holds, as it is answered.
 ghost use Rattle.std.specs.Prelude.{◌≤◌, length};
 ghost use Rattle.entries.specs.Intakes.{table_nets};
-ghost use Rattle.intake.specs.Answering.{deposit_lines, text_lines};
+ghost use Rattle.intake.specs.Answering.{deposit_lines, told_lines};
 ghost use Rattle.intake.specs.Filling.{Fills};
 ghost use Rattle.intake.specs.Yields.{YieldsFrames};
 ghost use Rattle.positions.specs.Questions.{portfolio_fault};
 ghost use Rattle.sheets.specs.Sheets.{sheet_rows};
 ghost use Rattle.terms.specs.Limits.{answer_memory, text_limit};
 
-use crate::line_fault::LineFault;
-use crate::taking::take_lines;
 use crate::writing::{write_deposit, write_fault};
 use books::table::NetTable;
 use deposits::deposit::deposit;
 use deposits::records::{ClassMargin, Match};
+use entries::intake::Intake;
+use entries::line_fault::LineFault;
+use entries::text::take_text;
 use lists::list::List;
 use sheets::rate_sheet::RateSheet;
-use terms::limits::{CLASSES, PAIRS};
+use terms::limits::{ANSWER_MEMORY, CLASSES, PAIRS};
 
 // Writes the frames of the deposit, or the one frame of why it is refused, which has no line.
-fn settle(book: &NetTable, sheet: &RateSheet, answer: &mut [u8]) -> usize
-    requires { answer_memory ≤ length answer.old }
+fn settle(book: &NetTable, sheet: &RateSheet, answer: &mut [u8; ANSWER_MEMORY]) -> usize
     ensures fills { Fills (deposit_lines (portfolio_fault (sheet_rows sheet.now) (table_nets book.now)) (sheet_rows sheet.now) (table_nets book.now)) answer.old result answer.new }
-    ensures size { result ≤ answer_memory }
 {
     let mut classes = [ClassMargin::NONE; CLASSES];
     let mut places = [Match::NONE; PAIRS];
@@ -33,16 +32,15 @@ fn settle(book: &NetTable, sheet: &RateSheet, answer: &mut [u8]) -> usize
     }
 }
 
-// Writes the answer to a text: the fault of its first refused line, or what its deposit gives.
-pub(crate) fn write_answer(text: &[u8], answer: &mut [u8]) -> usize
-    requires text { length text.now ≤ text_limit }
-    requires room { answer_memory ≤ length answer.old }
-    ensures fills { Fills (text_lines text.now) answer.old result answer.new }
+// Writes the answer to a text: its own fault or that of its first refused line, or what its deposit gives.
+#[tactic(auto, using(crate::proofs::Memories::fits))]
+pub(crate) fn write_answer(text: &[u8], answer: &mut [u8; ANSWER_MEMORY]) -> usize
+    ensures fills { Fills (told_lines text.now) answer.old result answer.new }
     ensures size { result ≤ answer_memory }
-    ensures yields { YieldsFrames text.now answer.old result answer.new }
+    ensures yields { length text.now ≤ text_limit → YieldsFrames text.now answer.old result answer.new }
 {
-    match take_lines(text) {
-        Ok(intake) => settle(&intake.book, &intake.draft.put_in_force(), answer),
+    match take_text(text) {
+        Ok(Intake { draft, book, .. }) => settle(&book, &draft.put_in_force(), answer),
         Err(refused) => write_fault(refused, answer),
     }
 }

@@ -8,6 +8,7 @@ ghost use Rattle.std.specs.Prelude.{◌≡◌};
 use intake::export;
 
 // Writes the answer to a text, and returns how many bytes these are, or minus the number of the refusal: -36 or -37.
+// Kept: the C interface: a static library is a crate of its own, and the function of intake that it calls is public.
 #[unsafe(no_mangle)]
 pub extern "C" fn dolzhivar_margin(text: &[u8], answer: &mut [u8]) -> i64
     ensures told { result ≡ told_in_c (call_answer text.now answer.old) }

@@ -1,21 +1,27 @@
 -- The first line of a text and what is left after it. Assumes nothing.
-use Rattle.std.proofs.Common.{◌≡◌, ℕ, suc, ◌+◌, ◌-◌, ◌<◌, ◌≤◌, true, false, cond, eqb, List, [], ◌∷◌, length, get_or, take, drop, sym, refl, ap, ◌∙◌, ⊎_elim, arith, length-drop}
-use Rattle.std.proofs.lemmas.List.{drop_more, drop_all, drop-drop, take_rest}
-use Rattle.std.proofs.lemmas.Bool.{eq-eqb, ne_eqb, cases_eq}
+use Rattle.std.proofs.Common.{◌≡◌, ℕ, suc, ◌+◌, ◌-◌, ◌<◌, ◌≤◌, true, false, cond, eqb, List, [], ◌∷◌, length, take, drop, Some, None, not, ltb, sym, refl, ap, ◌∙◌, ⊎_elim, arith, length-drop}
+use Rattle.std.proofs.lemmas.List.{drop-drop, take_rest}
+use Rattle.std.proofs.lemmas.List.Recursion.{is_position_or_len}
+use Rattle.std.proofs.lemmas.List.Sums.{prefix_len-le-length}
+use Rattle.std.specs.List.{position, position_or_len}
+use Rattle.std.specs.Option.{unwrap_or}
+use Rattle.std.proofs.lemmas.Bool.{eq-eqb, ne_eqb, cases_eq, ltb-false}
 use Rattle.lines.specs.Lines.{first_line, after_line, before, lines_of, fed, closed}
 
-module _ (text : List ℕ) (i : ℕ) (h : i < length text) where
-  -- a line feed ends the line
-  pub first_ends : get_or text i 0 ≡ 10 → length (first_line (drop i text)) ≡ 0
-  first_ends e =
-      ap (λ l. length (first_line l)) (drop_more text i 0 h)
-      ∙ ap (λ b. length (cond b [] (get_or text i 0 ∷ first_line (drop (i + 1) text)))) (eq-eqb (get_or text i 0) 10 e)
+-- the first line ends at the first line feed
+pub first_length : (text : List ℕ) → length (first_line text) ≡ position_or_len (λ c. eqb c 10) text
+first_length text = is_position_or_len (λ cs. length (first_line cs)) (λ c. eqb c 10) refl
+    (λ c cs. elim (eqb c 10) as (λ b. length (cond b [] (c ∷ first_line cs)) ≡ cond b 0 (1 + length (first_line cs))) [ true ↦ refl | false ↦ omega arith ]) text
 
-  -- any other byte belongs to it
-  pub first_more : (get_or text i 0 ≡ 10 → ⊥) → length (first_line (drop i text)) ≡ suc (length (first_line (drop (i + 1) text)))
-  first_more e =
-      ap (λ l. length (first_line l)) (drop_more text i 0 h)
-      ∙ ap (λ b. length (cond b [] (get_or text i 0 ∷ first_line (drop (i + 1) text)))) (ne_eqb (get_or text i 0) 10 e)
+-- where one is found, it stands there, and else the text has one line
+pub found_length : (text : List ℕ) → unwrap_or (position (λ c. eqb c 10) text) (length text) ≡ length (first_line text)
+found_length text =
+    let n = position_or_len (λ c. eqb c 10) text in
+    let few : n ≤ length text = prefix_len-le-length (λ c. not (eqb c 10)) text in
+    elim (ltb n (length text)) as (λ b. ltb n (length text) ≡ b → unwrap_or (cond b (Some n) None) (length text) ≡ length (first_line text)) [
+      | true ↦ λ _. sym (first_length text)
+      | false ↦ λ past. omega (arith, ltb-false n (length text) past, first_length text)
+    ] refl
 
 -- the line is the front of the text, and what is left is the rest of it
 pub first_take : (text : List ℕ) → take (length (first_line text)) text ≡ first_line text
@@ -42,9 +48,6 @@ module _ (text : List ℕ) (start end : ℕ) (is : end ≡ start + length (first
       let n = length (first_line (drop start text)) in
       let on : end + 1 ≡ start + suc n = omega arith in
       ap (λ k. drop k text) on ∙ sym (drop-drop (suc n) start text) ∙ after_drop (drop start text)
-
-  pub after_last : length text ≤ end → drop end text ≡ after_line (drop start text)
-  after_last last = drop_all end text last ∙ sym (drop_all (end + 1) text (omega arith)) ∙ after_fed
 
 -- a text that is not empty has a first line, and the lines of what is left after it
 pub lines_first : (text : List ℕ) → 0 < length text → lines_of text ≡ first_line text ∷ lines_of (after_line text)

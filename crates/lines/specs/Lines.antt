@@ -1,6 +1,8 @@
 -- The lines of a text. A line ends in a line feed; the last may lack it; no bytes left are no line.
 -- Assumes nothing.
-use Rattle.std.specs.Prelude.{ℕ, cond, List, [], ◌∷◌, ◌++◌, drop, ◌==◌}
+use Rattle.std.specs.Prelude.{ℕ, cond, List, [], ◌∷◌, ◌++◌, drop, Option, ◌==◌}
+use Rattle.std.specs.Iterator.{YieldsFirstBy}
+use Rattle.lines.specs.declared.part.Part.{Part}
 use Rattle.lines.specs.declared.reader.LineReader.{LineReader}
 
 -- the first line of a text, without its line feed
@@ -37,3 +39,11 @@ closed (c ∷ d ∷ cs) = c ∷ closed (d ∷ cs)
 -- what a reader has still to read
 abbrev pub rest_of : LineReader → List ℕ
 rest_of reader = drop reader.at reader.text.now
+
+-- the lines that it has still to read
+abbrev pub lines_left : LineReader → List (List ℕ)
+lines_left reader = lines_of (rest_of reader)
+
+-- a call gives the first of the lines left, and leaves the others; none where none is left, and then none is
+abbrev pub GivesFirstLine : LineReader → Option Part → LineReader → Type 0
+GivesFirstLine = YieldsFirstBy (λ part. part.digits.now) lines_left

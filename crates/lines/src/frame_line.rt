@@ -16,6 +16,7 @@ use terms::layer::Layer;
 use terms::refusal::Refusal;
 
 // Each holds the digits of the fields, and the place of the line in the text.
+// Kept: a rule of the project: one case a kind of frame, each with its part of the text and its place.
 #[derive(Clone, Copy)]
 pub enum FrameLine<'a> {
     Class(Part<'a>),
@@ -41,26 +42,24 @@ fn of_kind<'a>(kind: u8, part: Part<'a>) -> Result<FrameLine<'a>, Fault>
 {
     let fields = part.digits;
     match kind {
-        0x43 => checked::<ClassFrame>(FrameLine::Class(part), fields),
-        0x53 => checked::<SecurityFrame>(FrameLine::Security(part), fields),
-        0x50 => checked::<PairFrame>(FrameLine::Pair(part), fields),
-        0x42 => checked::<BookingFrame>(FrameLine::Booking(part), fields),
-        0x44 => checked::<DepositFrame>(FrameLine::Deposit(part), fields),
-        0x54 => checked::<TotalFrame>(FrameLine::Total(part), fields),
-        0x46 => checked::<FaultFrame>(FrameLine::Fault(part), fields),
-        _ => Err(Fault {
-            refusal: Refusal::UnknownKind,
-            layer: Layer::Frame,
-            place: 0,
-        }),
+        ClassFrame::KIND => checked::<ClassFrame>(FrameLine::Class(part), fields),
+        SecurityFrame::KIND => checked::<SecurityFrame>(FrameLine::Security(part), fields),
+        PairFrame::KIND => checked::<PairFrame>(FrameLine::Pair(part), fields),
+        BookingFrame::KIND => checked::<BookingFrame>(FrameLine::Booking(part), fields),
+        DepositFrame::KIND => checked::<DepositFrame>(FrameLine::Deposit(part), fields),
+        TotalFrame::KIND => checked::<TotalFrame>(FrameLine::Total(part), fields),
+        FaultFrame::KIND => checked::<FaultFrame>(FrameLine::Fault(part), fields),
+        _ => Err(Layer::Frame.fault(0, Refusal::UnknownKind)),
     }
 }
 
-impl<'a> FrameLine<'a> {
+impl<'a> TryFrom<Part<'a>> for FrameLine<'a> {
+    type Error = Fault;
+
+    ghost try_from_gives = { λ line result. Tells line.digits.now line.place result };
+
     // The frame of a line, or the first question that the line answers with no.
-    pub fn of_line(line: Part<'a>) -> Result<FrameLine<'a>, Fault>
-        ensures { Tells line.entry.digits.now line.entry.place result }
-    {
+    fn try_from(line: Part<'a>) -> Result<FrameLine<'a>, Fault> {
         let (kind, digits) = split(line.digits)?;
         let place = line.place;
         of_kind(kind, Part { digits, place })

@@ -1,10 +1,12 @@
 // The lines of a text, each a part of that text.
-ghost use Rattle.std.specs.Prelude.{◌≡◌, [], ◌∷◌, length, drop, MatchOption};
-ghost use Rattle.lines.specs.Lines.{first_line, after_line, lines_of, fed, closed, rest_of};
+ghost use Rattle.std.specs.Prelude.{◌≡◌, ◌≤◌, [], ◌∷◌, length, drop, MatchOption, ⊤};
+ghost use Rattle.std.specs.Iterator.{MakesProgress, item_count};
+ghost use Rattle.lines.specs.Lines.{first_line, after_line, lines_of, fed, closed, rest_of, lines_left, GivesFirstLine};
 
 use crate::part::Part;
 
 // A text that is read line by line.
+// Kept: a rule of the project: the line reader is a struct over the text with a cursor, and a line tells its place.
 #[derive(Drop)]
 pub struct LineReader<'a> {
     text: &'a [u8],
@@ -12,15 +14,14 @@ pub struct LineReader<'a> {
 }
 
 // The length of the first line of `text`, its line feed not counted.
+#[tactic(auto, using(crate::proofs::Feeds::first_within))]
 fn line_length(text: &[u8]) -> usize
-    ensures { result ≡ length (first_line text.now) }
+    ensures is { result ≡ length (first_line text.now) }
+    ensures within { result ≤ length text.now }
 {
-    for (i, code) in text.iter().enumerate() {
-        if *code == b'\n' {
-            return i;
-        }
-    }
-    text.len()
+    text.iter()
+        .position(|code| *code == b'\n')
+        .unwrap_or(text.len())
 }
 
 // The line of `text` that starts at `start`, and where the next one does; none where no bytes are left.
@@ -34,26 +35,37 @@ fn line_from(text: &[u8], start: usize) -> Option<(&[u8], usize)>
         return None;
     }
     let end = start + line_length(&text[start..]);
-    let next = if end < text.len() { end + 1 } else { end };
+    let next = (end + 1).min(text.len());
     Some((&text[start..end], next))
 }
 
 impl<'a> LineReader<'a> {
     // All of `text` is still to be read.
+    #[tactic(auto, using(crate::proofs::Feeds::lines_few))]
     pub fn new(text: &'a [u8]) -> LineReader<'a>
         ensures text { result.text ≡ text.entry }
         ensures start { result.at ≡ 0 }
         ensures rest { rest_of result ≡ text.now }
+        ensures few { length (lines_left result) ≤ length text.now }
     {
         LineReader { text, at: 0 }
     }
+}
+
+impl<'a> Iterator for LineReader<'a> {
+    type Item = Part<'a>;
+
+    ghost next_gives = { GivesFirstLine };
+
+    ghost remaining = { item_count lines_left };
 
     // The next line, without its line feed; none where no bytes are left.
-    pub fn next_line(&mut self) -> Option<Part<'a>>
+    fn next(&mut self) -> Option<Part<'a>>
         ensures line { MatchOption result (rest_of self.old ≡ []) (λ line. (line.digits.now ≡ first_line (rest_of self.old)) × (line.place ≡ self.old.at)) }
-        ensures lines { MatchOption result (lines_of (rest_of self.old) ≡ []) (λ line. lines_of (rest_of self.old) ≡ line.digits.now ∷ lines_of (rest_of self.new)) }
+        ensures lines { GivesFirstLine self.old result self.new }
         ensures after { rest_of self.new ≡ after_line (rest_of self.old) }
         ensures same { self.new.text ≡ self.old.text }
+        ensures goes { MakesProgress (λ _. ⊤) (item_count lines_left) self.old result self.new }
     {
         let place = self.at;
         let (digits, next) = line_from(self.text, place)?;

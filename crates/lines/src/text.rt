@@ -12,11 +12,7 @@ pub fn check_length(text: &[u8]) -> Result<(), Fault>
     ensures { result ≡ length_answer text.now }
 {
     if text.len() > TEXT_LIMIT {
-        return Err(Fault {
-            refusal: Refusal::TextTooLong,
-            layer: Layer::WholeText,
-            place: 0,
-        });
+        return Err(Layer::WholeText.fault(0, Refusal::TextTooLong));
     }
     Ok(())
 }

@@ -1,7 +1,20 @@
 // The list itself; its methods stand in a module of their own.
+use terms::fault::Fault;
+use terms::layer::Layer;
+use terms::refusal::Refusal;
+
 mod methods;
 
+// The refusal of a list: there is no such place.
+pub const NO_SUCH_PLACE: Fault = Fault {
+    refusal: Refusal::NoSuchPlace,
+    layer: Layer::List,
+    place: 0,
+};
+
 // The records appended so far, at the front of memory that the caller hands in.
+// Kept: one list over a borrowed slice is a rule of the project: it is a slice of places, and how many of them are filled.
+// Kept: each call that is lent a list says that its lender is the same after it: what a call keeps is no fact of one value.
 #[derive(Drop)]
 pub struct List<'a, T> {
     places: &'a mut [T],

@@ -14,8 +14,10 @@ use terms::limits::ANSWER_MEMORY;
 fn text_of(heap: Global, case: &Case) -> Result<Vec<u8>, AllocError> {
     let mut text = Vec::new(heap);
     text.extend_from_slice(case.head.as_bytes())?;
-    for _ in 0..case.times {
-        text.extend_from_slice(case.repeated.as_bytes())?;
+    if let Some((part, times)) = case.repeated {
+        for _ in 0..times {
+            text.extend_from_slice(part.as_bytes())?;
+        }
     }
     Ok(text)
 }

@@ -1,40 +1,52 @@
 -- The sums and counts over the positions, one position more at a time, and that they stay small. Assumes nothing.
-use Rattle.std.proofs.Common.{◌≡◌, ℕ, ◌+◌, ◌*◌, ◌≤◌, Bool, true, false, cond, List, get_or, arith}
+use Rattle.std.proofs.Common.{◌≡◌, ℕ, zero, suc, ◌+◌, ◌*◌, ◌≤◌, Bool, true, false, cond, eqb, List, length, get_or, take, None, Some, Option, sym, ap, ◌∙◌, subst, add-one, arith}
+use Rattle.std.specs.Prelude.{count_by, sum_by}
+use Rattle.std.proofs.lemmas.List.Sums.{sum_by_more}
+use Rattle.std.proofs.lemmas.List.{take_all}
+use Rattle.terms.specs.declared.choice.Side.{Side}
+use Rattle.terms.specs.declared.choice.Side.TheVariants.{Bought, Sold}
 use Rattle.rules.specs.Laws.{value_limit}
-use Rattle.rules.specs.Sums.{sum_below}
-use Rattle.rules.proofs.Sums.{sum_add, sum_const, sum_le, sum_more}
+use Rattle.rules.specs.Sums.{sum_below, count_below}
+use Rattle.rules.proofs.Sums.{sum_add, sum_const, sum_le, sum_more, sum_none}
 use Rattle.positions.specs.declared.position.Position.{Position}
-use Rattle.positions.specs.Values.{nothing, placed, bought_share, sold_share, held_share, bought_in, sold_in, count_in_lem, Small}
+use Rattle.positions.specs.Values.{as_bought, as_sold, bought_share, sold_share, bought_in, sold_in, worth_of, Small}
 
-pub bought_more : (all : List Position) (c n : ℕ) → bought_in all c (n + 1) ≡ bought_in all c n + bought_share c (get_or all n nothing)
-bought_more all c n = sum_more n (λ s. bought_share c (get_or all s nothing))
+pub bought_more : (all : List (Option Position)) (c n : ℕ) → bought_in all c (n + 1) ≡ bought_in all c n + bought_share c (get_or all n None)
+bought_more all c n = sum_more n (λ s. bought_share c (get_or all s None))
 
-pub sold_more : (all : List Position) (c n : ℕ) → sold_in all c (n + 1) ≡ sold_in all c n + sold_share c (get_or all n nothing)
-sold_more all c n = sum_more n (λ s. sold_share c (get_or all s nothing))
+pub sold_more : (all : List (Option Position)) (c n : ℕ) → sold_in all c (n + 1) ≡ sold_in all c n + sold_share c (get_or all n None)
+sold_more all c n = sum_more n (λ s. sold_share c (get_or all s None))
 
-pub count_more : (all : List Position) (c n : ℕ) → count_in_lem all c (n + 1) ≡ count_in_lem all c n + held_share c (get_or all n nothing)
-count_more all c n = sum_more n (λ s. held_share c (get_or all s nothing))
+sides_within : (t : Bool) (d : Side) (v : ℕ) → cond t (as_bought d v) 0 + cond t (as_sold d v) 0 ≤ v
+sides_within true Bought v = omega arith
+sides_within true Sold v = omega arith
+sides_within false d v = omega arith
 
-shares_within : (t : Bool) (b s k : ℕ) → b + s ≤ k → cond t b 0 + cond t s 0 ≤ k
-shares_within true b s k h = h
-shares_within false b s k h = omega arith
+shares_within : (c : ℕ) (p : Option Position) → bought_share c p + sold_share c p ≤ worth_of p
+shares_within c None = omega arith
+shares_within c (Some p) = sides_within (eqb p.class c) p.side p.value.units
 
-pub sums_small : (all : List Position) → Small all → (c n : ℕ) → bought_in all c n + sold_in all c n ≤ n * value_limit
+pub sums_small : (all : List (Option Position)) → Small all → (c n : ℕ) → bought_in all c n + sold_in all c n ≤ n * value_limit
 sums_small all small c n =
-    let b : ℕ → ℕ = λ s. bought_share c (get_or all s nothing) in
-    let d : ℕ → ℕ = λ s. sold_share c (get_or all s nothing) in
+    let b : ℕ → ℕ = λ s. bought_share c (get_or all s None) in
+    let d : ℕ → ℕ = λ s. sold_share c (get_or all s None) in
     omega (
       arith,
       sum_add n b d,
       sum_const n value_limit,
-      sum_le n (λ s. b s + d s) (λ s. value_limit)
-          (λ s l. shares_within (placed c (get_or all s nothing)) (get_or all s nothing).bought.units (get_or all s nothing).sold.units value_limit (small s)),
+      sum_le n (λ s. b s + d s) (λ s. value_limit) (λ s l. omega (arith, shares_within c (get_or all s None), small s)),
     )
 
-pub one_within : (t : Bool) → cond t 1 0 ≤ 1
-one_within true = omega arith
-one_within false = omega arith
+-- ---- a sum over a list, by its places
 
--- a count of tests is at most as high as their number
-pub count_small : (n : ℕ) (t : ℕ → Bool) → sum_below n (λ s. cond (t s) 1 0) ≤ n
-count_small n t = omega (arith, sum_const n 1, sum_le n (λ s. cond (t s) 1 0) (λ s. 1) (λ s l. one_within (t s)))
+places_below : {X : Type 0} (f : X → ℕ) (xs : List X) (d : X) (n : ℕ) → n ≤ length xs → sum_by f (take n xs) ≡ sum_below n (λ s. f (get_or xs s d))
+places_below f xs d zero l = sym (sum_none (λ s. f (get_or xs s d)))
+places_below f xs d (suc n) l =
+    subst (λ (k : ℕ). sum_by f (take k xs) ≡ sum_below k (λ s. f (get_or xs s d))) (add-one n)
+    (sum_by_more f xs n d (omega arith) ∙ ap (λ (k : ℕ). k + f (get_or xs n d)) (places_below f xs d n (omega arith)) ∙ sym (sum_more n (λ s. f (get_or xs s d))))
+
+pub sum_by_places : {X : Type 0} (f : X → ℕ) (xs : List X) (d : X) (n : ℕ) → length xs ≡ n → sum_by f xs ≡ sum_below n (λ s. f (get_or xs s d))
+sum_by_places f xs d n e = ap (sum_by f) (sym (take_all n xs (omega arith))) ∙ places_below f xs d n (omega arith)
+
+pub count_by_places : {X : Type 0} (p : X → Bool) (xs : List X) (d : X) (n : ℕ) → length xs ≡ n → count_by p xs ≡ count_below n (λ s. p (get_or xs s d))
+count_by_places p xs d n e = sum_by_places (λ x. cond (p x) 1 0) xs d n e

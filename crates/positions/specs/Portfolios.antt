@@ -1,5 +1,5 @@
 -- What a valued portfolio means. Assumes nothing.
-use Rattle.std.specs.Prelude.{◌≡◌, ℕ, ℤ, Some, None, Ok, Err, Result}
+use Rattle.std.specs.Prelude.{◌≡◌, ℕ, ℤ, Some, None, Ok, Err, Option, Result}
 use mathlib.Core.List as L
 use Rattle.terms.specs.declared.fault.Fault.{Fault}
 use Rattle.rules.specs.Rows.{Rows}
@@ -9,7 +9,7 @@ use Rattle.positions.specs.Questions.{portfolio_fault}
 use Rattle.positions.specs.Values.{Valued}
 
 -- its positions, by security
-abbrev pub positions_of : Portfolio → L.List Position
+abbrev pub positions_of : Portfolio → L.List (Option Position)
 positions_of p = p.all
 
 -- What opening a portfolio answers: the fault of the first held security that has one, or all positions.

@@ -1,11 +1,11 @@
 // A position.
+use terms::choice::Side;
 use terms::money::Zloty;
 
-// A security in a portfolio: whether it is held, its class, and its value as bought or as sold.
+// A held security of a portfolio: its class, the side of its net, and its value.
 #[derive(Clone, Copy)]
 pub struct Position {
-    pub held: bool,
     pub class: u16,
-    pub bought: Zloty,
-    pub sold: Zloty,
+    pub side: Side,
+    pub value: Zloty,
 }

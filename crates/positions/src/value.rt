@@ -1,88 +1,63 @@
 // The positions of a portfolio, each held security valued once.
 ghost use Rattle.positions.specs.Questions.{security_refusal};
 ghost use Rattle.positions.specs.Values.{Values, position_of, side_of_lem};
-ghost use Rattle.terms.specs.Questions.{answer, fault};
+ghost use Rattle.terms.specs.Questions.{answer};
 ghost use Rattle.terms.specs.declared.layer.Layer.TheVariants as layers;
 ghost use Rattle.std.specs.Prelude.{◌≡◌};
 
 use crate::position::Position;
 use books::book::{Positions, net_of};
-use rules::position::valuation;
 use sheets::reading::priced_security;
 use sheets::sheet::Sheet;
+use terms::choice::Side;
 use terms::fault::Fault;
 use terms::layer::Layer;
 use terms::limits::SECURITIES;
-use terms::money::Zloty;
 use terms::refusal::Refusal;
 
-// The position in a security that is not held.
-const NOTHING: Position = Position {
-    held: false,
-    class: 0,
-    bought: Zloty::ZERO,
-    sold: Zloty::ZERO,
-};
-
-// The refusal of a deposit for a security.
-fn refused(refusal: Refusal, security: u16) -> Fault
-    ensures { result ≡ fault layers.Deposit security refusal }
+// The side of a net.
+// Kept: a side is not made of any number, but of a net, so that a `From` of an integer would say too much.
+fn side_of(net: i64) -> Side
+    ensures { result ≡ side_of_lem net }
 {
-    Fault {
-        refusal,
-        layer: Layer::Deposit,
-        place: security,
-    }
+    if net < 0 { Side::Sold } else { Side::Bought }
 }
 
-// A value on the side of the net.
-fn on_side(net: i64, class: u16, value: Zloty) -> Position
-    ensures { result ≡ side_of_lem net class value }
-{
-    if net < 0 {
-        Position {
-            held: true,
-            class,
-            bought: Zloty::ZERO,
-            sold: value,
-        }
-    } else {
-        Position {
-            held: true,
-            class,
-            bought: value,
-            sold: Zloty::ZERO,
-        }
-    }
-}
-
-// The position in a security, or its refusal.
-fn position<P: Positions, S: Sheet>(book: &P, sheet: &S, security: u16) -> Result<Position, Fault>
+// The position in a security where it is held, or its refusal.
+fn position<P: Positions, S: Sheet>(
+    book: &P,
+    sheet: &S,
+    security: u16,
+) -> Result<Option<Position>, Fault>
     ensures { result ≡ answer layers.Deposit security (position_of (S.Sheet.rows sheet.now) (P.Positions.nets book.now) security) (security_refusal (S.Sheet.rows sheet.now) (P.Positions.nets book.now) security) }
 {
     let net = net_of(book, security);
     if net == 0 {
-        return Ok(NOTHING);
+        return Ok(None);
     }
-    let Some((row, kind)) = priced_security(sheet, security) else {
-        return Err(refused(Refusal::SecurityWithoutRow, security));
+    let Some(priced) = priced_security(sheet, security) else {
+        return Err(Layer::Deposit.fault(security, Refusal::SecurityWithoutRow));
     };
-    let Some((_, value)) = valuation(net, row, kind) else {
-        return Err(refused(Refusal::AmountTooLarge, security));
+    let Some((_, value)) = priced.valuation(net) else {
+        return Err(Layer::Deposit.fault(security, Refusal::AmountTooLarge));
     };
-    Ok(on_side(net, row.class, value))
+    Ok(Some(Position {
+        class: priced.row.class,
+        side: side_of(net),
+        value,
+    }))
 }
 
 // The positions of a portfolio, or the refusal of the first held security that has one.
 pub(crate) fn positions<P: Positions, S: Sheet>(
     book: &P,
     sheet: &S,
-) -> Result<[Position; SECURITIES], Fault>
+) -> Result<[Option<Position>; SECURITIES], Fault>
     ensures { Values (S.Sheet.rows sheet.now) (P.Positions.nets book.now) result }
 {
-    let mut all = [NOTHING; SECURITIES];
-    for security in 0..SECURITIES as u16 {
-        all[security as usize] = position(book, sheet, security)?;
+    let mut all = [None; SECURITIES];
+    for (security, place) in all.iter_mut().enumerate() {
+        *place = position(book, sheet, security as u16)?;
     }
     Ok(all)
 }

@@ -55,84 +55,53 @@ const NO_BOOKING: Booking = Booking {
     quantity: 0,
 };
 
-// Makes the calls at the tops of two piles, and says what each gave.
-fn day<T: Top + Drop, U: Cover + Drop>(
-    rt: &HostRuntime,
-    book: T::Below,
-    sheet: U::Below,
-    orders: &[Order],
-    places: Places,
-) -> anyhow::Result<()>
-where
-    T::Own: OwnCall,
-    U::Own: OwnCall,
-    T::Below: Drop,
-    U::Below: Drop,
-{
-    let heap = rt.alloc();
-    let script = script_of::<T::Own, U::Own>(heap, orders)?;
-    let mut classes = vec![in heap; ClassMargin::NONE; places.classes]?;
-    let mut matches = vec![in heap; Match::NONE; places.matches]?;
-    let mut entries = vec![in heap; Entry::Done(Ok(())); places.entries.unwrap_or(script.len())]?;
-    let mut match_list = List::over(&mut matches);
-    let mut log = List::over(&mut entries);
-    let opened: Result<(T, U), _> = replay(
-        book,
-        sheet,
-        &script,
-        &mut classes,
-        &mut match_list,
-        &mut log,
-    );
-    match opened {
-        Ok(_) => say_log(rt, orders, &entries),
-        Err(unopened) => {
-            println!(rt; "no call is made")?;
-            say_fault(rt, unopened.fault)
+// What a day needs: the calls that are made, and the memory that they get.
+#[derive(Clone, Copy)]
+pub(crate) struct Day<'a> {
+    pub(crate) rt: &'a HostRuntime,
+    pub(crate) orders: &'a [Order],
+    pub(crate) places: Places,
+}
+
+impl<'a> Day<'a> {
+    // Makes the calls at the tops of two piles, and says what each gave.
+    fn at<T: Top + Drop, U: Cover + Drop>(
+        &self,
+        book: T::Below,
+        sheet: U::Below,
+    ) -> anyhow::Result<()>
+    where
+        T::Own: OwnCall,
+        U::Own: OwnCall,
+        T::Below: Drop,
+        U::Below: Drop,
+    {
+        let rt = self.rt;
+        let orders = self.orders;
+        let places = self.places;
+        let heap = rt.alloc();
+        let script = script_of::<T::Own, U::Own>(heap, orders)?;
+        let entry_places = places.entries.unwrap_or(script.len());
+        let mut classes = vec![in heap; ClassMargin::NONE; places.classes]?;
+        let mut matches = vec![in heap; Match::NONE; places.matches]?;
+        let mut entries = vec![in heap; Entry::Done(Ok(())); entry_places]?;
+        let mut match_list = List::over(&mut matches);
+        let mut log = List::over(&mut entries);
+        let opened: Result<(T, U), _> = replay(
+            book,
+            sheet,
+            &script,
+            &mut classes,
+            &mut match_list,
+            &mut log,
+        );
+        match opened {
+            Ok(_) => say_log(rt, orders, &entries),
+            Err(unopened) => {
+                println!(rt; "no call is made")?;
+                say_fault(rt, unopened.fault)
+            }
         }
-    }
-}
-
-// Over the fixed table: a trial layer above a net table.
-fn rates_day(rt: &HostRuntime, orders: &[Order], places: Places) -> anyhow::Result<()> {
-    let book = NetTable::open();
-    day::<Trial<NetTable>, Plain<DurationRates2020>>(rt, book, DurationRates2020, orders, places)
-}
-
-// Over a sheet with pairs under a surcharge: two trial layers above a net table.
-fn pairs_day(rt: &HostRuntime, orders: &[Order], places: Places) -> anyhow::Result<()> {
-    let book = Trial::open(NetTable::open());
-    match pairs_sheet() {
-        Ok(sheet) => {
-            day::<Trial<Trial<NetTable>>, Surcharge<RateSheet>>(rt, book, sheet, orders, places)
-        }
-        Err(fault) => say_fault(rt, fault),
-    }
-}
-
-// Over the fixed table: a journal with no trial layer.
-fn journal_day(rt: &HostRuntime, orders: &[Order], places: Places) -> anyhow::Result<()> {
-    let mut bookings = vec![in rt.alloc(); NO_BOOKING; places.bookings]?;
-    let book = Journal::open(&mut bookings);
-    day::<Bare<Journal>, Plain<DurationRates2020>>(rt, book, DurationRates2020, orders, places)
-}
-
-// Over the fixed table: a trial layer above a journal.
-fn layered_day(rt: &HostRuntime, orders: &[Order], places: Places) -> anyhow::Result<()> {
-    let mut bookings = vec![in rt.alloc(); NO_BOOKING; places.bookings]?;
-    let book = Journal::open(&mut bookings);
-    day::<Trial<Journal>, Plain<DurationRates2020>>(rt, book, DurationRates2020, orders, places)
-}
-
-// Over a sheet with pairs under a surcharge above another: a trial layer above a net table that is lent.
-fn stacked_day(rt: &HostRuntime, orders: &[Order], places: Places) -> anyhow::Result<()> {
-    let mut table = NetTable::open();
-    let book = &mut table;
-    match surcharged_sheet() {
-        Ok(sheet) => day::<Trial<&mut NetTable>, Surcharge<Surcharge<RateSheet>>>(
-            rt, book, sheet, orders, places,
-        ),
-        Err(fault) => say_fault(rt, fault),
     }
 }
 
@@ -140,27 +109,43 @@ impl Desk {
     // Whether such a call can be made at the desk.
     pub(crate) fn takes(self, order: Order) -> bool {
         match order {
-            Order::Book { .. } => true,
-            Order::Deposit => true,
-            Order::Commit => !matches!(self, Desk::Journal),
-            Order::Drop => !matches!(self, Desk::Journal),
-            Order::Surcharge { .. } => matches!(self, Desk::Pairs | Desk::Stacked),
+            Order::Book(_) | Order::Deposit => true,
+            Order::Commit | Order::Drop => !matches!(self, Desk::Journal),
+            Order::Surcharge(_) => matches!(self, Desk::Pairs | Desk::Stacked),
         }
     }
 
     // The day of the desk.
-    pub(crate) fn run(
-        self,
-        rt: &HostRuntime,
-        orders: &[Order],
-        places: Places,
-    ) -> anyhow::Result<()> {
+    pub(crate) fn run(self, day: Day<'_>) -> anyhow::Result<()> {
+        let rt = day.rt;
+        let mut bookings = vec![in rt.alloc(); NO_BOOKING; day.places.bookings]?;
+        let mut table = NetTable::open();
+        // Kept: each desk is of other types, so no value that could be called chooses one.
         match self {
-            Desk::Rates => rates_day(rt, orders, places),
-            Desk::Pairs => pairs_day(rt, orders, places),
-            Desk::Journal => journal_day(rt, orders, places),
-            Desk::Layered => layered_day(rt, orders, places),
-            Desk::Stacked => stacked_day(rt, orders, places),
+            Desk::Rates => {
+                day.at::<Trial<NetTable>, Plain<DurationRates2020>>(table, DurationRates2020)
+            }
+            Desk::Pairs => match pairs_sheet() {
+                Ok(sheet) => day.at::<Trial<Trial<NetTable>>, Surcharge<RateSheet>>(
+                    Trial::open(table),
+                    sheet,
+                ),
+                Err(fault) => say_fault(rt, fault),
+            },
+            Desk::Journal => {
+                let book = Journal::open(&mut bookings);
+                day.at::<Bare<Journal>, Plain<DurationRates2020>>(book, DurationRates2020)
+            }
+            Desk::Layered => {
+                let book = Journal::open(&mut bookings);
+                day.at::<Trial<Journal>, Plain<DurationRates2020>>(book, DurationRates2020)
+            }
+            Desk::Stacked => match surcharged_sheet() {
+                Ok(sheet) => day.at::<Trial<&mut NetTable>, Surcharge<Surcharge<RateSheet>>>(
+                    &mut table, sheet,
+                ),
+                Err(fault) => say_fault(rt, fault),
+            },
         }
     }
 }

@@ -13,11 +13,8 @@ use crate::session::Session;
 // Reads the script line by line.
 fn read_script(rt: &HostRuntime) -> anyhow::Result<()> {
     let mut session = Session::new(rt.alloc());
-    let mut number: u32 = 0;
-    for line in rt.lines(rt.alloc()) {
-        let line = line?;
-        number = number.saturating_add(1);
-        session.read(rt, number, &line)?;
+    for (before, line) in rt.lines(rt.alloc()).enumerate() {
+        session.read(rt, before.saturating_add(1), &line?)?;
     }
     session.close(rt)
 }

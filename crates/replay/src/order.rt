@@ -1,13 +1,17 @@
 // The lines of a script.
-use std::str::SplitWhitespace;
+use books::booking::Booking;
+use rules::rows::Addition;
+use std::str::{FromStr, SplitWhitespace};
+use surcharges::setting::Setting;
+use terms::choice::Side;
 
 // What a dealer orders at a desk.
 #[derive(Clone, Copy)]
 pub(crate) enum Order {
-    Book { security: u16, quantity: i64 },
+    Book(Booking),
     Commit,
     Drop,
-    Surcharge { class: u16, y: u32, x: u32 },
+    Surcharge(Setting),
     Deposit,
 }
 
@@ -37,72 +41,82 @@ pub(crate) enum Line {
     Desk(Desk),
     Memory { of: Memory, places: u16 },
     Order(Order),
-    Unreadable,
 }
 
-fn number(words: &mut SplitWhitespace<'_>) -> Option<u16> {
-    words.next()?.parse::<u16>().ok()
+// A word or a line that is not understood.
+#[derive(Clone, Copy)]
+pub(crate) struct NotUnderstood;
+
+impl FromStr for Desk {
+    type Err = NotUnderstood;
+
+    fn from_str(word: &str) -> Result<Desk, NotUnderstood> {
+        match word {
+            "rates" => Ok(Desk::Rates),
+            "pairs" => Ok(Desk::Pairs),
+            "journal" => Ok(Desk::Journal),
+            "layered" => Ok(Desk::Layered),
+            "stacked" => Ok(Desk::Stacked),
+            _ => Err(NotUnderstood),
+        }
+    }
 }
 
-fn figure(words: &mut SplitWhitespace<'_>) -> Option<u32> {
-    words.next()?.parse::<u32>().ok()
+impl FromStr for Memory {
+    type Err = NotUnderstood;
+
+    fn from_str(word: &str) -> Result<Memory, NotUnderstood> {
+        match word {
+            "classes" => Ok(Memory::Classes),
+            "matches" => Ok(Memory::Matches),
+            "entries" => Ok(Memory::Entries),
+            "bookings" => Ok(Memory::Bookings),
+            _ => Err(NotUnderstood),
+        }
+    }
+}
+
+// What the next word names.
+fn read<T: FromStr>(words: &mut SplitWhitespace<'_>) -> Option<T>
+where
+    T::Err: Drop,
+{
+    words.next()?.parse().ok()
 }
 
 // The next word is this one.
 fn keyword(words: &mut SplitWhitespace<'_>, word: &str) -> Option<()> {
-    if words.next()? == word {
-        Some(())
-    } else {
-        None
-    }
+    (words.next()? == word).then_some(())
 }
 
 // book SECURITY bought|sold QUANTITY
-fn booking(words: &mut SplitWhitespace<'_>) -> Option<Order> {
-    let security = number(words)?;
-    let side = words.next()?;
-    let quantity = i64::from(figure(words)?);
-    match side {
-        "bought" => Some(Order::Book { security, quantity }),
-        "sold" => Some(Order::Book {
-            security,
-            quantity: 0 - quantity,
-        }),
-        _ => None,
-    }
+fn booking(words: &mut SplitWhitespace<'_>) -> Option<Booking> {
+    let security = read(words)?;
+    // Kept: `FromStr` would have to stand in terms, which knows no words of a script: a type's impl stands in its own crate.
+    let side = match words.next()? {
+        "bought" => Side::Bought,
+        "sold" => Side::Sold,
+        _ => return None,
+    };
+    let quantity = side.signed(read(words)?);
+    Some(Booking { security, quantity })
 }
 
 // surcharge CLASS y ADDITION x ADDITION
-fn surcharge(words: &mut SplitWhitespace<'_>) -> Option<Order> {
-    let class = number(words)?;
+fn surcharge(words: &mut SplitWhitespace<'_>) -> Option<Setting> {
+    let class = read(words)?;
     keyword(words, "y")?;
-    let y = figure(words)?;
+    let y = read(words)?;
     keyword(words, "x")?;
-    let x = figure(words)?;
-    Some(Order::Surcharge { class, y, x })
-}
-
-fn desk_named(words: &mut SplitWhitespace<'_>) -> Option<Desk> {
-    match words.next()? {
-        "rates" => Some(Desk::Rates),
-        "pairs" => Some(Desk::Pairs),
-        "journal" => Some(Desk::Journal),
-        "layered" => Some(Desk::Layered),
-        "stacked" => Some(Desk::Stacked),
-        _ => None,
-    }
+    let x = read(words)?;
+    let addition = Addition { y, x };
+    Some(Setting { class, addition })
 }
 
 // memory classes|matches|entries|bookings PLACES
 fn memory_named(words: &mut SplitWhitespace<'_>) -> Option<Line> {
-    let of = match words.next()? {
-        "classes" => Memory::Classes,
-        "matches" => Memory::Matches,
-        "entries" => Memory::Entries,
-        "bookings" => Memory::Bookings,
-        _ => return None,
-    };
-    let places = number(words)?;
+    let of = read(words)?;
+    let places = read(words)?;
     Some(Line::Memory { of, places })
 }
 
@@ -112,10 +126,10 @@ fn said(words: &mut SplitWhitespace<'_>) -> Option<Line> {
         return Some(Line::Nothing);
     };
     match first {
-        "desk" => Some(Line::Desk(desk_named(words)?)),
+        "desk" => Some(Line::Desk(read(words)?)),
         "memory" => memory_named(words),
-        "book" => Some(Line::Order(booking(words)?)),
-        "surcharge" => Some(Line::Order(surcharge(words)?)),
+        "book" => Some(Line::Order(Order::Book(booking(words)?))),
+        "surcharge" => Some(Line::Order(Order::Surcharge(surcharge(words)?))),
         "commit" => Some(Line::Order(Order::Commit)),
         "drop" => Some(Line::Order(Order::Drop)),
         "deposit" => Some(Line::Order(Order::Deposit)),
@@ -125,23 +139,18 @@ fn said(words: &mut SplitWhitespace<'_>) -> Option<Line> {
 
 // The text of a line before its comment.
 fn before_comment(text: &str) -> &str {
-    match text.split_once('#') {
-        Some((before, _)) => before,
-        None => text,
-    }
+    text.split_once('#').map_or(text, |(before, _)| before)
 }
 
-// What a line says; it is unreadable where a word is wrong, missing or left over.
-pub(crate) fn line_of(text: &str) -> Line {
-    let mut words = before_comment(text).split_whitespace();
-    match said(&mut words) {
-        Some(line) => {
-            if words.next().is_some() {
-                Line::Unreadable
-            } else {
-                line
-            }
+// A line is not understood where a word is wrong, missing or left over.
+impl FromStr for Line {
+    type Err = NotUnderstood;
+
+    fn from_str(text: &str) -> Result<Line, NotUnderstood> {
+        let mut words = before_comment(text).split_whitespace();
+        match said(&mut words) {
+            Some(line) if words.next().is_none() => Ok(line),
+            _ => Err(NotUnderstood),
         }
-        None => Line::Unreadable,
     }
 }

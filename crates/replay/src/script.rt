@@ -6,30 +6,24 @@ ghost use Rattle.std.specs.Prelude.{◌≡◌, IfOk, None, Option};
 use crate::order::Order;
 use histories::step::Step;
 use std::alloc::{AllocError, Global};
-use surcharges::setting::{NoSetting, Setting};
-use tops::call::{Call, NoCall, TrialCall};
+use std::convert::Infallible;
+use surcharges::setting::Setting;
+use tops::call::{Call, TrialCall};
 
 // The calls that only one kind of top has.
 pub(crate) trait OwnCall: Copy {
     // The call that an order asks for, if the top has it.
     ghost asked: { Asked → Option Self };
 
+    // Kept: an order that a top does not have is no error, so that `TryFrom` would need an error type that says nothing.
     fn of_order(order: Order) -> Option<Self>
         ensures { result ≡ asked order };
 }
 
-impl OwnCall for NoCall {
+impl OwnCall for Infallible {
     ghost asked = { λ _. None };
 
-    fn of_order(_order: Order) -> Option<NoCall> {
-        None
-    }
-}
-
-impl OwnCall for NoSetting {
-    ghost asked = { λ _. None };
-
-    fn of_order(_order: Order) -> Option<NoSetting> {
+    fn of_order(_order: Order) -> Option<Infallible> {
         None
     }
 }
@@ -51,7 +45,7 @@ impl OwnCall for Setting {
 
     fn of_order(order: Order) -> Option<Setting> {
         match order {
-            Order::Surcharge { class, y, x } => Some(Setting { class, y, x }),
+            Order::Surcharge(setting) => Some(setting),
             _ => None,
         }
     }
@@ -61,13 +55,9 @@ impl OwnCall for Setting {
 fn own<O: OwnCall, P: OwnCall>(order: Order) -> Option<Step<O, P>>
     ensures { result ≡ own_step (O.OwnCall.asked order) (P.OwnCall.asked order) }
 {
-    match O::of_order(order) {
-        Some(call) => Some(Step::Book(Call::Own(call))),
-        None => match P::of_order(order) {
-            Some(call) => Some(Step::Sheet(call)),
-            None => None,
-        },
-    }
+    O::of_order(order)
+        .map(|call| Step::Book(Call::Own(call)))
+        .or_else(|| P::of_order(order).map(|call| Step::Sheet(call)))
 }
 
 // What an order asks for.
@@ -75,7 +65,7 @@ fn step<O: OwnCall, P: OwnCall>(order: Order) -> Option<Step<O, P>>
     ensures { result ≡ step_of O.OwnCall.asked P.OwnCall.asked order }
 {
     match order {
-        Order::Book { security, quantity } => Some(Step::Book(Call::Book { security, quantity })),
+        Order::Book(booking) => Some(Step::Book(Call::Book(booking))),
         Order::Deposit => Some(Step::Deposit),
         _ => own(order),
     }
@@ -88,12 +78,5 @@ pub(crate) fn script_of<O: OwnCall, P: OwnCall>(
 ) -> Result<Vec<Step<O, P>>, AllocError>
     ensures { IfOk result (λ v. v.items ≡ steps_of O.OwnCall.asked P.OwnCall.asked orders.now) }
 {
-    let mut script = Vec::new(heap);
-    for order in orders {
-        match step(*order) {
-            Some(asked) => script.push(asked)?,
-            None => {}
-        }
-    }
-    Ok(script)
+    orders.iter().filter_map(|order| step(*order)).collect(heap)
 }

@@ -1,6 +1,6 @@
 // A script, read line by line: the calls at a desk are kept until the next desk is opened.
-use crate::desks::Places;
-use crate::order::{Desk, Line, Order, line_of};
+use crate::desks::{Day, Places};
+use crate::order::{Desk, Line, NotUnderstood, Order};
 use std::alloc::Global;
 
 // The desk that is open, the calls for it, and the memory that it gets.
@@ -23,12 +23,15 @@ impl Session {
 
     // Makes the calls at the desk that is open.
     pub(crate) fn close(&mut self, rt: &HostRuntime) -> anyhow::Result<()> {
-        if let Some(desk) = self.desk {
-            desk.run(rt, &self.orders, self.places)?;
+        if let Some(desk) = self.desk.take() {
+            desk.run(Day {
+                rt,
+                orders: &self.orders,
+                places: self.places,
+            })?;
         }
         self.orders.clear();
         self.places = Places::ENOUGH;
-        self.desk = None;
         Ok(())
     }
 
@@ -41,30 +44,30 @@ impl Session {
     }
 
     // Keeps a call, if it can be made at the desk that is open.
-    fn keep(&mut self, rt: &HostRuntime, number: u32, order: Order) -> anyhow::Result<()> {
+    fn keep(&mut self, rt: &HostRuntime, number: usize, order: Order) -> anyhow::Result<()> {
         match self.desk {
-            Some(desk) if desk.takes(order) => {
-                self.orders.push(order)?;
-            }
+            Some(desk) if desk.takes(order) => self.orders.push(order)?,
             _ => println!(rt; "line {number} is passed over: no open desk can {order}")?,
         }
         Ok(())
     }
 
     // Takes one line of the script.
-    pub(crate) fn read(&mut self, rt: &HostRuntime, number: u32, text: &str) -> anyhow::Result<()> {
-        match line_of(text) {
-            Line::Nothing => Ok(()),
-            Line::Desk(desk) => self.open(rt, desk),
-            Line::Memory { of, places } => {
-                self.places.give(of, places);
-                Ok(())
-            }
-            Line::Order(order) => self.keep(rt, number, order),
-            Line::Unreadable => {
-                println!(rt; "line {number} is passed over: it is not understood")?;
-                Ok(())
-            }
+    pub(crate) fn read(
+        &mut self,
+        rt: &HostRuntime,
+        number: usize,
+        text: &str,
+    ) -> anyhow::Result<()> {
+        match text.parse() {
+            Ok(Line::Nothing) => {}
+            Ok(Line::Desk(desk)) => self.open(rt, desk)?,
+            Ok(Line::Memory { of, places }) => self.places.give(of, places),
+            Ok(Line::Order(order)) => self.keep(rt, number, order)?,
+            Err(NotUnderstood) => println!(rt;
+                "line {number} is passed over: it is not understood"
+            )?,
         }
+        Ok(())
     }
 }

@@ -1,7 +1,8 @@
 // A sheet with pairs.
-use rules::rows::{ClassRow, PairRow, SecurityRow};
+use rules::rows::{Addition, ClassRow, PairRow, SecurityRow};
 use sheets::draft::Draft;
 use sheets::rate_sheet::RateSheet;
+use surcharges::setting::Setting;
 use surcharges::surcharge::Surcharge;
 use terms::choice::ClassKind;
 use terms::fault::Fault;
@@ -53,6 +54,9 @@ pub(crate) fn pairs_sheet() -> Result<RateSheet, Fault> {
 // The same under a surcharge of 1% on y of class 0.
 pub(crate) fn surcharged_sheet() -> Result<Surcharge<RateSheet>, Fault> {
     let mut sheet = Surcharge::open(pairs_sheet()?);
-    sheet.set(0, 1_000, 0)?;
+    sheet.set(Setting {
+        class: 0,
+        addition: Addition { y: 1_000, x: 0 },
+    })?;
     Ok(sheet)
 }

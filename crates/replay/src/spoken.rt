@@ -1,12 +1,13 @@
 // What a desk did, in plain words and zloty.
 use crate::order::{Desk, Order};
+use books::booking::Booking;
 use deposits::records::{ClassMargin, Match};
 use histories::step::Entry;
 use histories::telling::Telling;
 use std::fmt;
+use surcharges::setting::Setting;
 use terms::fault::Fault;
-use wording::refusals::{LayerWords, RefusalWords};
-use wording::units::{Amount, Money, Percent};
+use wording::units::{Amount, Leftover, Money, Percent};
 
 // A desk, and what it is opened over.
 impl fmt::Display for Desk {
@@ -27,7 +28,8 @@ impl fmt::Display for Desk {
 impl fmt::Display for Order {
     fn fmt<W: fmt::Write>(&self, f: &mut fmt::Formatter<W>) -> fmt::Result {
         match *self {
-            Order::Book { security, quantity } => {
+            Order::Book(Booking { security, quantity }) => {
+                // Kept: these two words are a dealer's, said of a signed quantity, which has no `Side` beside it.
                 let side = if quantity < 0 { "sell" } else { "buy" };
                 let units = quantity.unsigned_abs();
                 write!(f, "{side} {units} of security {security}")
@@ -35,39 +37,21 @@ impl fmt::Display for Order {
             Order::Commit => f.write_str("commit"),
             Order::Drop => f.write_str("drop the trial"),
             Order::Deposit => f.write_str("deposit"),
-            Order::Surcharge { class, y, x } => {
-                let y = Percent(y);
-                let x = Percent(x);
+            Order::Surcharge(Setting { class, addition }) => {
+                let y = Percent(addition.y);
+                let x = Percent(addition.x);
                 write!(f, "add {y} to y and {x} to x of class {class}")
             }
         }
     }
 }
 
-// A signed amount.
-#[derive(Clone, Copy)]
-struct Leftover(i64);
-
-impl fmt::Display for Leftover {
-    fn fmt<W: fmt::Write>(&self, f: &mut fmt::Formatter<W>) -> fmt::Result {
-        if self.0 == 0 {
-            return f.write_str("nothing");
-        }
-        let amount = Amount(self.0.unsigned_abs());
-        let side = if self.0 < 0 { "sold" } else { "bought" };
-        write!(f, "{amount} {side}")
-    }
-}
-
 pub(crate) fn say_fault(rt: &HostRuntime, fault: Fault) -> anyhow::Result<()> {
-    let number = fault.refusal.number();
-    let words = RefusalWords(fault.refusal);
-    let layer = LayerWords(fault.layer);
-    let place = fault.place;
-    println!(rt; "  refused: {words} (refusal {number}, {layer}, place {place})")?;
+    println!(rt; "  refused: {fault}")?;
     Ok(())
 }
 
+// Kept: gap says the same figures of a class in other words; a type that printed both would take each program's words.
 fn say_class(rt: &HostRuntime, number: usize, class: &ClassMargin) -> anyhow::Result<()> {
     let bought = Amount(class.bought.units());
     let sold = Amount(class.sold.units());
@@ -82,6 +66,7 @@ fn say_class(rt: &HostRuntime, number: usize, class: &ClassMargin) -> anyhow::Re
     Ok(())
 }
 
+// Kept: as `say_class`.
 fn say_match(rt: &HostRuntime, pair: &Match) -> anyhow::Result<()> {
     let first = pair.first;
     let second = pair.second;
@@ -92,6 +77,7 @@ fn say_match(rt: &HostRuntime, pair: &Match) -> anyhow::Result<()> {
 
 fn say_telling(rt: &HostRuntime, telling: &Telling) -> anyhow::Result<()> {
     let dspan = Money(telling.summary.dspan.grosz());
+    // Kept: the summary is DSPAN, C, N and R (a rule of the project); a type of its three counts would be made to be printed.
     let classes = telling.summary.classes;
     let securities = telling.summary.securities;
     let pairs = telling.summary.pairs;
@@ -103,7 +89,7 @@ fn say_telling(rt: &HostRuntime, telling: &Telling) -> anyhow::Result<()> {
             say_class(rt, number, class)?;
         }
     }
-    for pair in telling.matches.iter().take(telling.pairs) {
+    for pair in telling.matches.iter().flatten() {
         say_match(rt, pair)?;
     }
     Ok(())
@@ -113,9 +99,8 @@ fn say_telling(rt: &HostRuntime, telling: &Telling) -> anyhow::Result<()> {
 fn say_entry(rt: &HostRuntime, entry: &Entry) -> anyhow::Result<()> {
     match entry {
         Entry::Done(Ok(())) => println!(rt; "  done")?,
-        Entry::Done(Err(fault)) => say_fault(rt, *fault)?,
         Entry::Told(Ok(telling)) => say_telling(rt, telling)?,
-        Entry::Told(Err(fault)) => say_fault(rt, *fault)?,
+        Entry::Done(Err(fault)) | Entry::Told(Err(fault)) => say_fault(rt, *fault)?,
     }
     Ok(())
 }

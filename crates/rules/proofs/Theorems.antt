@@ -22,6 +22,7 @@ apart_pairs : (rows : Rows) → Lawful rows → Every Apart rows.pairs
 apart_pairs rows h = every_map (λ p l. l.apart) rows.pairs h.of_pairs
 
 pub matching : Matching
+unfolding Matching
 matching k rows h nets = walk_matched (net_value k rows nets) rows.pairs (apart_pairs rows h)
 
 -- ---- no class owes less than nothing

@@ -36,7 +36,7 @@ pub record Matched (v : ℕ → ℤ) (ps : List PairRow) (ms : List ℕ) (left :
   pub opposed : Both (λ p m. part_of (v p.first) m +ℤ part_of (v p.second) m ≡ pos 0) ps ms
   pub served : Every (λ p. ¬ (Opposite (left p.first) (left p.second))) ps
 
-abbrev pub Matching : Type 0
+unfoldable pub Matching : Type 0
 Matching =
     (k : Rounding) (rows : Rows) → Lawful rows → (nets : ℕ → ℤ) →
     let v : ℕ → ℤ = net_value k rows nets in

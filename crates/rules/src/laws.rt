@@ -3,7 +3,7 @@ ghost use Rattle.rules.specs.Laws.{NoNegative, Monotone, SurchargesLawful, value
 ghost use Rattle.rules.specs.Rows.{raised_class};
 ghost use Rattle.std.specs.Prelude.{◌≡◌, min};
 
-use crate::rows::ClassRow;
+use crate::rows::{Addition, ClassRow};
 use terms::limits::{AMOUNT_LIMIT, CLASSES, DURATION_LIMIT, DURATION_ONE, SECURITIES, WHOLE};
 
 // The largest numbers of a margin whose amounts are within their limit: a value in zloty units, the two sums of a class
@@ -16,8 +16,11 @@ pub struct Sizes {
     pub span: u64,
 }
 
-// The bound by the numbers of what is held.
-fn bound_of(classes: u8, securities: u16, pairs: u8) -> u64
+// How far a deposit may be from the exact margin with so many classes, securities and pairs held, in thousandths of a grosz.
+// It never is farther.
+// Kept: C, N and R stand one by one, as in the summary, which is DSPAN, C, N and R: a rule of the project.
+#[tactic(auto, using(crate::proofs::Accuracy::accuracy))]
+pub fn accuracy_bound(classes: u8, securities: u16, pairs: u8) -> u64
     ensures bound { result ≡ accuracy_bound_lem classes securities pairs }
     ensures accuracy { Accuracy }
 {
@@ -25,17 +28,9 @@ fn bound_of(classes: u8, securities: u16, pairs: u8) -> u64
     1_500 * classes as u64 + 465 * securities + pairs as u64 * (2_000 + 310 * securities)
 }
 
-// How far a deposit may be from the exact margin with so many classes, securities and pairs held, in thousandths of a grosz.
-// It never is farther.
-pub fn accuracy_bound(classes: u8, securities: u16, pairs: u8) -> u64
-    ensures bound { result ≡ accuracy_bound_lem classes securities pairs }
-    ensures accuracy { Accuracy }
-{
-    bound_of(classes, securities, pairs)
-}
-
-// The largest numbers, from the limits of a sheet.
-fn from_limits() -> Sizes
+// The largest numbers, from the limits of a sheet; all of them fit 63 bits. No margin is above them.
+#[tactic(auto, using(crate::proofs::Fits::values_within, crate::proofs::Fits::sums_within, crate::proofs::Fits::deposits_within, crate::proofs::Fits::spans_within))]
+pub fn largest() -> Sizes
     ensures numbers { result ≡ record { value = value_limit; sums = sum_limit; deposit = deposit_limit; span = span_limit } }
     ensures values { ValuesWithin result.value }
     ensures sums { SumsWithin result.sums }
@@ -52,51 +47,26 @@ fn from_limits() -> Sizes
     }
 }
 
-// The largest numbers, all of which fit 63 bits. No margin is above them.
-pub fn largest() -> Sizes
-    ensures numbers { result ≡ record { value = value_limit; sums = sum_limit; deposit = deposit_limit; span = span_limit } }
-    ensures values { ValuesWithin result.value }
-    ensures sums { SumsWithin result.sums }
-    ensures deposits { DepositsWithin result.deposit }
-    ensures spans { SpansWithin result.span }
-{
-    from_limits()
-}
-
-// The smaller of two rates.
-fn smaller(first: u32, second: u32) -> u32
+// The highest credit of a pair whose classes have these rates y: the smaller of them. Under it no class owes less than nothing.
+#[tactic(auto, using(crate::proofs::Theorems::no_negative))]
+pub fn credit_ceiling(first: u32, second: u32) -> u32
     ensures ceiling { result ≡ min first second }
     ensures signs { NoNegative }
 {
     first.min(second)
 }
 
-// The highest credit of a pair whose classes have these rates y. Under it no class owes less than nothing.
-pub fn credit_ceiling(first: u32, second: u32) -> u32
-    ensures ceiling { result ≡ min first second }
-    ensures signs { NoNegative }
-{
-    smaller(first, second)
-}
-
-// The row with additions to its y and its x, each up to the whole.
-fn raised_row(row: ClassRow, to_y: u32, to_x: u32) -> ClassRow
-    ensures row { result ≡ raised_class to_y to_x row }
+// A class's row under a surcharge: additions to its y and its x, each up to the whole. It lowers no deposit, and keeps the
+// laws of a sheet.
+#[tactic(auto, using(crate::proofs::Theorems::monotone, crate::proofs::Theorems::surcharges_lawful))]
+pub fn surcharged_row(row: ClassRow, addition: Addition) -> ClassRow
+    ensures row { result ≡ raised_class addition.y addition.x row }
     ensures monotone { Monotone }
     ensures lawful { SurchargesLawful }
 {
     ClassRow {
-        y: row.y.saturating_add(to_y).min(WHOLE),
-        x: row.x.saturating_add(to_x).min(WHOLE),
+        y: row.y.saturating_add(addition.y).min(WHOLE),
+        x: row.x.saturating_add(addition.x).min(WHOLE),
         ..row
     }
-}
-
-// A class's row under a surcharge: additions to its y and its x. It lowers no deposit, and keeps the laws of a sheet.
-pub fn surcharged_row(row: ClassRow, to_y: u32, to_x: u32) -> ClassRow
-    ensures row { result ≡ raised_class to_y to_x row }
-    ensures monotone { Monotone }
-    ensures lawful { SurchargesLawful }
-{
-    raised_row(row, to_y, to_x)
 }

@@ -5,8 +5,9 @@ ghost use Rattle.std.specs.Prelude.{◌≡◌, true};
 
 use terms::money::Zloty;
 
-// One of the two is below 0 and the other above.
-fn signs_differ(a: i64, b: i64) -> bool
+// Two leftovers can be matched: one is below 0 and the other above. After the walk over its pairs, a sheet has no such pair left.
+#[tactic(auto, using(crate::proofs::Theorems::matching))]
+pub fn opposite(a: i128, b: i128) -> bool
     ensures yes { result ≡ true → Opposite a b }
     ensures no { Opposite a b → result ≡ true }
     ensures matching { Matching }
@@ -14,35 +15,41 @@ fn signs_differ(a: i64, b: i64) -> bool
     a < 0 && b > 0 || a > 0 && b < 0
 }
 
-// Two leftovers can be matched: one is below 0 and the other above. After the walk over its pairs, a sheet has no such pair left.
-pub fn opposite(a: i64, b: i64) -> bool
-    ensures yes { result ≡ true → Opposite a b }
-    ensures no { Opposite a b → result ≡ true }
-    ensures matching { Matching }
-{
-    signs_differ(a, b)
-}
-
 // The part of two leftovers that is matched: the smaller magnitude where they are opposite, else nothing.
-pub fn matched_part(a: i64, b: i64) -> Zloty
-    ensures { result ≡ record { units = matched a b } }
+pub fn matched_units(a: i128, b: i128) -> u128
+    ensures { result ≡ matched a b }
 {
     if opposite(a, b) {
-        Zloty::new(a.unsigned_abs().min(b.unsigned_abs()))
+        a.unsigned_abs().min(b.unsigned_abs())
     } else {
-        Zloty::ZERO
+        0
     }
 }
 
 // A leftover, so much nearer to 0, which it does not pass.
+// Kept: its magnitude less the matched part, at least 0, times its sign, overflows at the lowest i128; the three cases do not.
+pub fn units_towards_zero(leftover: i128, matched: u128) -> i128
+    ensures { result ≡ towards leftover matched }
+{
+    if matched >= leftover.unsigned_abs() {
+        0
+    } else if leftover < 0 {
+        leftover + matched as i128
+    } else {
+        leftover - matched as i128
+    }
+}
+
+// The part of two leftovers in zloty units that is matched.
+pub fn matched_part(a: i64, b: i64) -> Zloty
+    ensures { result ≡ record { units = matched a b } }
+{
+    Zloty::new(matched_units(a.into(), b.into()) as u64)
+}
+
+// A leftover in zloty units, so much nearer to 0.
 pub fn moved_towards_zero(leftover: i64, matched: Zloty) -> i64
     ensures { result ≡ towards leftover matched.units }
 {
-    if matched.units() >= leftover.unsigned_abs() {
-        0
-    } else if leftover < 0 {
-        leftover + matched.units() as i64
-    } else {
-        leftover - matched.units() as i64
-    }
+    units_towards_zero(leftover.into(), matched.units().into()) as i64
 }

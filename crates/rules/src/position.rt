@@ -17,10 +17,20 @@ pub fn counted_duration(kind: ClassKind, duration: u32) -> u32
     }
 }
 
-// The amounts A and V of a net quantity of a security, if A is at most the limit of a position.
-pub fn valuation(net: i64, row: SecurityRow, kind: ClassKind) -> Option<(Zloty, Zloty)>
-    ensures { result ≡ position_value (unsigned_abs net) row kind }
-{
-    let duration = counted_duration(kind, row.duration);
-    Quotation::at_price(net.unsigned_abs(), row.price).valued(row.rate, duration)
+// The row of a security, and the kind of its class.
+#[derive(Clone, Copy, PartialEq, Eq, Debug)]
+pub struct PricedSecurity {
+    pub row: SecurityRow,
+    pub kind: ClassKind,
+}
+
+impl PricedSecurity {
+    // The amounts A and V of a net quantity of the security, if A is at most the limit of a position.
+    // Kept: A and V are a pair, a rule of the project.
+    pub fn valuation(self, net: i64) -> Option<(Zloty, Zloty)>
+        ensures { result ≡ position_value (unsigned_abs net) self.row self.kind }
+    {
+        let duration = counted_duration(self.kind, self.row.duration);
+        Quotation::at_price(net.unsigned_abs(), self.row.price).valued(self.row.rate, duration)
+    }
 }

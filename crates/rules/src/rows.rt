@@ -7,6 +7,7 @@ use terms::choice::ClassKind;
 use terms::limits::{DURATION_LIMIT, DURATION_ONE, PRICE_LIMIT, RATE_LIMIT, WHOLE};
 
 // The rates of a class, each in 10^-5 of the whole.
+// Kept: y, x and dep are no struct of their own: a row may be unlawful before it is judged, and the Rates of a sheet never are.
 #[derive(Clone, Copy, PartialEq, Eq, Debug)]
 pub struct ClassRow {
     pub kind: ClassKind,
@@ -25,24 +26,25 @@ pub struct SecurityRow {
 }
 
 // Two classes whose net values may be matched, and the credit for it in 10^-5 of the matched part.
-#[derive(Clone, Copy, PartialEq, Eq, Debug)]
+#[derive(Clone, Copy, PartialEq, Eq, Debug, Default)]
 pub struct PairRow {
     pub first: u16,
     pub second: u16,
     pub crt: u32,
 }
 
-impl ClassRow {
-    // The figures of the row obey the laws of a sheet. A table of rows does where its test passes, of which this is a part.
-    pub fn figures_lawful(&self) -> bool
-        ensures test { result ≡ class_figures self.now }
-        ensures decides { TestDecides }
-    {
-        self.figures_fit()
-    }
+// What a surcharge adds to the y and the x of a class, each in 10^-5 of the whole.
+#[derive(Clone, Copy, PartialEq, Eq, Debug)]
+pub struct Addition {
+    pub y: u32,
+    pub x: u32,
+}
 
-    // Each figure is at most the whole, and a liquidity class has no dep.
-    fn figures_fit(&self) -> bool
+impl ClassRow {
+    // The figures of the row obey the laws of a sheet: each is at most the whole, and a liquidity class has no dep.
+    // A table of rows does where its test passes, of which this is a part.
+    #[tactic(auto, using(crate::proofs::Tables::test_decides))]
+    pub fn figures_lawful(&self) -> bool
         ensures test { result ≡ class_figures self.now }
         ensures decides { TestDecides }
     {
@@ -63,8 +65,8 @@ impl SecurityRow {
             ClassKind::Liquidity => self.duration == DURATION_ONE,
             ClassKind::Duration => self.duration <= DURATION_LIMIT,
         };
-        let price_fits = 1 <= self.price && self.price <= PRICE_LIMIT;
-        let rate_fits = 1 <= self.rate && self.rate <= RATE_LIMIT;
-        price_fits && rate_fits && duration_fits
+        (1..=PRICE_LIMIT).contains(&self.price)
+            && (1..=RATE_LIMIT).contains(&self.rate)
+            && duration_fits
     }
 }

@@ -9,6 +9,7 @@ use Rattle.rules.specs.declared.rows.SecurityRow.{SecurityRow}
 use Rattle.rules.specs.declared.rows.PairRow.{PairRow}
 use Rattle.rules.specs.Rows.{Rows, Lawful, LawfulClass, LawfulSecurity, LawfulPair, Every, Present, Has, figure}
 use Rattle.rules.specs.Tables.{pair_classes, pair_credit}
+use Rattle.rules.proofs.Walk.{every_map}
 use Rattle.rules.proofs.Tables.{class_passes, security_passes, pair_passes}
 use Rattle.sheets.specs.Drafts.{with_class, with_security, with_pair, class_refusal, security_refusal, pair_refusal}
 use Rattle.sheets.proofs.Asked.{class_asked, security_asked, pair_asked}
@@ -20,10 +21,6 @@ has_weaker P Q f None h = h
 present_weaker : {A : Type 0} (P Q : A → Type 0) → ((a : A) → P a → Q a) → (o : Option A) → Present P o → Present Q o
 present_weaker P Q f (Some a) h = f a h
 present_weaker P Q f None h = tt
-
-every_weaker : {A : Type 0} (P Q : A → Type 0) → ((a : A) → P a → Q a) → (xs : List A) → Every P xs → Every Q xs
-every_weaker P Q f [] h = tt
-every_weaker P Q f (a ∷ rest) h = (f a h.0, every_weaker P Q f rest h.1)
 
 every_push : {A : Type 0} (P : A → Type 0) (xs : List A) (a : A) → Every P xs → P a → Every P (xs ++ a ∷ [])
 every_push P [] a h p = (p, tt)
@@ -72,7 +69,7 @@ module _ (before after : Rows) (grows : Grows before.classes after.classes) wher
   securities_kept o s h = present_weaker (LawfulSecurity before s) (LawfulSecurity after s) (security_kept s) o h
 
   pairs_kept : (ps : List PairRow) → Every (LawfulPair before) ps → Every (LawfulPair after) ps
-  pairs_kept ps h = every_weaker (LawfulPair before) (LawfulPair after) pair_kept ps h
+  pairs_kept ps h = every_map {P = LawfulPair before} {Q = LawfulPair after} pair_kept ps h
 
 -- ---- the rows with one more
 

@@ -25,6 +25,7 @@ impl Draft {
     }
 
     // The row of a class: refusals 10, 11 and 12.
+    // Kept: each kind of row has questions, a place and refusals of its own; a trait over the three would say no more.
     pub fn add_class(&mut self, class: u16, row: ClassRow) -> Result<(), Fault>
         ensures { TakesClass draft_rows self.old class row result self.new }
     {

@@ -78,19 +78,12 @@ impl Sheet for DurationRates2020 {
     ghost lawful = { λ _. rates_2020_lawful };
 
     fn class(&self, class: u16) -> Option<ClassRow> {
-        match class {
-            1..=7 => Some(CLASS_ROWS[class as usize - 1]),
-            _ => None,
-        }
+        let place = class.checked_sub(1)?;
+        CLASS_ROWS.get(place as usize).copied()
     }
 
     fn security(&self, security: u16) -> Option<SecurityRow> {
-        let at = security as usize;
-        if at < SECURITY_ROWS.len() {
-            Some(SECURITY_ROWS[at])
-        } else {
-            None
-        }
+        SECURITY_ROWS.get(security as usize).copied()
     }
 
     fn pair(&self, _place: usize) -> Option<PairRow> {

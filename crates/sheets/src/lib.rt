@@ -3,7 +3,9 @@
 
 pub mod draft;
 pub mod duration_rates;
+pub mod pairs;
 pub mod rate_sheet;
+pub mod rates;
 pub mod reading;
 pub mod sheet;
 mod table;

@@ -1,24 +1,17 @@
 // Reading a sheet of any kind.
-ghost use Rattle.sheets.specs.Readings.{rates_in, with_kind};
+ghost use Rattle.sheets.specs.Readings.{figures_of, rates_in, with_kind};
 ghost use Rattle.sheets.specs.Sheets.{draft_rows};
 ghost use Rattle.std.specs.Prelude.{◌≡◌, is_some};
 
 use crate::draft::Draft;
+use crate::rates::Rates;
 use crate::sheet::Sheet;
-use rules::rows::SecurityRow;
-use terms::choice::ClassKind;
-
-// The rates of a class, each in 10^-5 of the whole.
-#[derive(Clone, Copy)]
-pub struct Rates {
-    pub y: u32,
-    pub x: u32,
-    pub dep: u32,
-}
+use rules::position::PricedSecurity;
 
 // The rates of a class, 0 where it has no row.
+// Kept: the match knows that the row is lawful; a closure of `map_or` would have to require it, and `From<ClassRow>` may not.
 pub fn rates_of<S: Sheet>(sheet: &S, class: u16) -> Rates
-    ensures { result ≡ rates_in ((S.Sheet.rows sheet.now).classes class) }
+    ensures { figures_of result ≡ rates_in ((S.Sheet.rows sheet.now).classes class) }
 {
     match sheet.class(class) {
         Some(row) => Rates {
@@ -31,18 +24,21 @@ pub fn rates_of<S: Sheet>(sheet: &S, class: u16) -> Rates
 }
 
 // The row of a security, and the kind of its class. Where there is the one, there is the other.
-pub fn priced_security<S: Sheet>(sheet: &S, security: u16) -> Option<(SecurityRow, ClassKind)>
+pub fn priced_security<S: Sheet>(sheet: &S, security: u16) -> Option<PricedSecurity>
     ensures row { result ≡ with_kind (S.Sheet.rows sheet.now) ((S.Sheet.rows sheet.now).securities security) }
     ensures listed { is_some result ≡ is_some ((S.Sheet.rows sheet.now).securities security) }
 {
     let row = sheet.security(security)?;
     let class = sheet.class(row.class)?;
-    Some((row, class.kind))
+    Some(PricedSecurity {
+        row,
+        kind: class.kind,
+    })
 }
 
 // The rates of a class once a draft is in force: those of its row in the draft.
 pub fn rates_in_force(draft: Draft, class: u16) -> Rates
-    ensures { result ≡ rates_in ((draft_rows draft).classes class) }
+    ensures { figures_of result ≡ rates_in ((draft_rows draft).classes class) }
 {
     let sheet = draft.put_in_force();
     rates_of(&sheet, class)

@@ -1,6 +1,6 @@
 -- What a table of additions means. Assumes nothing.
 use Rattle.std.specs.Prelude.{ℕ, slice_index_or}
-use Rattle.surcharges.specs.declared.additions.Addition.{Addition}
+use Rattle.rules.specs.declared.rows.Addition.{Addition}
 use Rattle.surcharges.specs.declared.additions.AdditionTable.{AdditionTable}
 use Rattle.surcharges.specs.Surcharges.{Additions}
 

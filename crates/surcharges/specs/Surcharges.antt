@@ -6,9 +6,9 @@ use Rattle.terms.specs.declared.fault.Fault.{Fault}
 use Rattle.terms.specs.declared.layer.Layer.TheVariants.{Surcharge}
 use Rattle.terms.specs.declared.refusal.Refusal.{Refusal}
 use Rattle.terms.specs.declared.refusal.Refusal.TheVariants.{UnknownSurchargeClass, AdditionOutOfRange}
+use Rattle.std.specs.declared.convert.Infallible.{Infallible}
 use Rattle.rules.specs.Rows.{Rows, raised}
 use Rattle.surcharges.specs.declared.setting.Setting.{Setting}
-use Rattle.surcharges.specs.declared.setting.NoSetting.{NoSetting}
 
 -- per class, what is added to y and to x
 pub record Additions : Type 0 where
@@ -26,7 +26,7 @@ with_additions a rows = raised a.on_y a.on_x rows
 abbrev pub setting_refusal : Setting → Option Refusal
 setting_refusal s =
     ask (nat_lt s.class class_count) UnknownSurchargeClass
-    (ask (nat_le s.y whole && nat_le s.x whole) AdditionOutOfRange
+    (ask (nat_le s.addition.y whole && nat_le s.addition.x whole) AdditionOutOfRange
     None)
 
 abbrev pub setting_answer : Setting → Result (Unit {0}) Fault
@@ -38,7 +38,7 @@ put_at f class v c = cond (c == class) v (f c)
 
 -- the additions after a setting: it replaces those of its class
 abbrev pub after_setting : Additions → Setting → Additions
-after_setting a s = record { on_y = put_at a.on_y s.class s.y; on_x = put_at a.on_x s.class s.x }
+after_setting a s = record { on_y = put_at a.on_y s.class s.addition.y; on_x = put_at a.on_x s.class s.addition.x }
 
 -- the same by whether it was accepted
 abbrev pub set_by : Additions → Setting → Bool → Additions
@@ -53,5 +53,5 @@ pub record Sets {S : Type 0} (additions : S → Additions) (before : S) (setting
   pub replaced : additions after ≡ set_by (additions before) setting (is_ok result)
 
 -- with no surcharge there is no setting
-abbrev pub no_setting : NoSetting → Setting
+abbrev pub no_setting : Infallible → Setting
 no_setting o = elim o [ ]

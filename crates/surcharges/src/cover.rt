@@ -34,6 +34,7 @@ pub trait Cover: Sheet + Sized {
         ensures additions { additions result ≡ no_additions };
 
     // Makes one of its own calls, or none: with none, nothing changes.
+    // Kept: a method that takes a call of a type without values is a contract that no call can meet, so a call may be none.
     fn call(&mut self, own: Option<&Self::Own>) -> Result<(), Fault>
         ensures answer { IfSome own.entry (λ o. result ≡ setting_answer (means o.now)) }
         ensures additions { IfSome own.entry (λ o. additions self.new ≡ set_by (additions self.old) (means o.now) (is_ok result)) }

@@ -3,9 +3,9 @@ ghost use Rattle.surcharges.specs.Surcharges.{no_additions, no_setting};
 ghost use Rattle.std.proofs.Common.{rules};
 
 use crate::cover::Cover;
-use crate::setting::NoSetting;
 use rules::rows::{ClassRow, PairRow, SecurityRow};
 use sheets::sheet::Sheet;
+use std::convert::Infallible;
 use terms::fault::Fault;
 
 // The sheet alone.
@@ -35,7 +35,7 @@ impl<S: Sheet> Sheet for Plain<S> {
 impl<S: Sheet> Cover for Plain<S> {
     type Below = S;
 
-    type Own = NoSetting;
+    type Own = Infallible;
 
     ghost under = { λ s. S.Sheet.rows s.sheet };
 
@@ -51,7 +51,7 @@ impl<S: Sheet> Cover for Plain<S> {
         Plain { sheet: below }
     }
 
-    fn call(&mut self, own: Option<&NoSetting>) -> Result<(), Fault> {
+    fn call(&mut self, own: Option<&Infallible>) -> Result<(), Fault> {
         match own {
             Some(own) => match *own {},
             None => Ok(()),

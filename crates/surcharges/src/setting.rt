@@ -1,13 +1,9 @@
 // What is asked of a surcharge.
+use rules::rows::Addition;
 
-// New additions to the y and the x of one class, in 10^-5 of the whole.
+// A new addition to the y and the x of one class.
 #[derive(Clone, Copy)]
 pub struct Setting {
     pub class: u16,
-    pub y: u32,
-    pub x: u32,
+    pub addition: Addition,
 }
-
-// A sheet with no surcharge takes no setting.
-#[derive(Clone, Copy)]
-pub enum NoSetting {}

@@ -32,12 +32,12 @@ impl<S: Sheet> Surcharge<S> {
         }
     }
 
-    // Replaces the additions to the y and the x of a class: refusals 25 and 26.
-    pub fn set(&mut self, class: u16, y: u32, x: u32) -> Result<(), Fault>
-        ensures sets { Sets (λ s. additions_in s.additions) self.old (record { class = class; y = y; x = x }) result self.new }
+    // Replaces the addition to the y and the x of a class: refusals 25 and 26.
+    pub fn set(&mut self, setting: Setting) -> Result<(), Fault>
+        ensures sets { Sets (λ s. additions_in s.additions) self.old setting result self.new }
         ensures below { self.new.below ≡ self.old.below }
     {
-        self.additions.set(Setting { class, y, x })
+        self.additions.set(setting)
     }
 }
 
@@ -48,10 +48,9 @@ impl<S: Sheet> Sheet for Surcharge<S> {
 
     fn class(&self, class: u16) -> Option<ClassRow> {
         let addition = self.additions.of(class);
-        match self.below.class(class) {
-            Some(row) => Some(surcharged_row(row, addition.y, addition.x)),
-            None => None,
-        }
+        self.below
+            .class(class)
+            .map(|row| surcharged_row(row, addition))
     }
 
     fn security(&self, security: u16) -> Option<SecurityRow> {
@@ -84,7 +83,7 @@ impl<S: Sheet> Cover for Surcharge<S> {
 
     fn call(&mut self, own: Option<&Setting>) -> Result<(), Fault> {
         match own {
-            Some(own) => self.set(own.class, own.y, own.x),
+            Some(own) => self.set(*own),
             None => Ok(()),
         }
     }

@@ -1,3 +1,4 @@
+pub mod Choices
 pub mod Limits
 pub mod Money
 pub mod Numbers

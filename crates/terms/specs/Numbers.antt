@@ -1,5 +1,6 @@
--- The number of every refusal and of every layer. Assumes nothing.
-use Rattle.std.specs.Prelude.{ℕ}
+-- The number of every refusal and of every layer, and what a number names. Assumes nothing.
+use Rattle.std.specs.Prelude.{◌≡◌, ◌≢◌, ℕ, Result, MatchResult, List as Sequence, codes}
+use Rattle.terms.specs.declared.unknown.NoSuchNumber.{NoSuchNumber}
 use Rattle.terms.specs.declared.layer.Layer.{Layer}
 use Rattle.terms.specs.declared.layer.Layer.TheVariants.{Frame, Sheet, Book, Trial, Deposit, Surcharge, List, WholeText}
 use Rattle.terms.specs.declared.refusal.Refusal.{Refusal}
@@ -44,3 +45,24 @@ layer_number Deposit = 5
 layer_number Surcharge = 6
 layer_number List = 7
 layer_number WholeText = 8
+
+-- the one of these whose number it is, or the number where none has it
+abbrev pub Names : {X : Type 0} → (X → ℕ) → ℕ → Result X NoSuchNumber → Type 0
+Names {X} number_of n r = MatchResult r (λ x. number_of x ≡ n) (λ e. (e.0 ≡ n) × ((x : X) → number_of x ≢ n))
+
+abbrev pub NamesRefusal : ℕ → Result Refusal NoSuchNumber → Type 0
+NamesRefusal = Names refusal_number
+
+abbrev pub NamesLayer : ℕ → Result Layer NoSuchNumber → Type 0
+NamesLayer = Names layer_number
+
+-- each layer in plain words
+abbrev pub layer_words : Layer → Sequence ℕ
+layer_words Frame = codes "frame"
+layer_words Sheet = codes "sheet"
+layer_words Book = codes "book"
+layer_words Trial = codes "trial"
+layer_words Deposit = codes "deposit"
+layer_words Surcharge = codes "surcharge"
+layer_words List = codes "list"
+layer_words WholeText = codes "whole text"

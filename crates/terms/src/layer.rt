@@ -1,6 +1,9 @@
 // The part of the module that refuses a call.
-ghost use Rattle.std.specs.Prelude.{◌≡◌, MatchOption, ◌≢◌};
-ghost use Rattle.terms.specs.Numbers.{layer_number};
+ghost use Rattle.std.specs.Prelude.{◌≡◌, Some};
+ghost use Rattle.terms.specs.Numbers.{NamesLayer, layer_number, layer_words};
+
+use crate::unknown::NoSuchNumber;
+use std::fmt;
 
 // A case for each part that puts questions to a call.
 #[derive(Clone, Copy, PartialEq, Eq, Debug)]
@@ -15,19 +18,39 @@ pub enum Layer {
     WholeText = 8,
 }
 
-impl Layer {
-    // The number by which faults name the layer.
-    pub fn number(self) -> u8
-        ensures { result ≡ layer_number self }
-    {
-        self as u8
-    }
+impl fmt::Display for Layer {
+    ghost output = { λ layer. Some (layer_words layer) };
 
-    // The layer with this number, if there is one.
-    pub fn from_number(number: u8) -> Option<Layer>
-        ensures { MatchOption result ((x : Layer) → layer_number x ≢ number) (λ x. layer_number x ≡ number) }
-    {
-        Some(match number {
+    fn fmt<W: fmt::Write>(&self, f: &mut fmt::Formatter<W>) -> fmt::Result {
+        f.write_str(match self {
+            Layer::Frame => "frame",
+            Layer::Sheet => "sheet",
+            Layer::Book => "book",
+            Layer::Trial => "trial",
+            Layer::Deposit => "deposit",
+            Layer::Surcharge => "surcharge",
+            Layer::List => "list",
+            Layer::WholeText => "whole text",
+        })
+    }
+}
+
+impl From<Layer> for u8 {
+    ghost from_gives = { λ layer n. n ≡ layer_number layer };
+
+    fn from(layer: Layer) -> u8 {
+        layer as u8
+    }
+}
+
+// Kept: no derive makes an enum of a number, so that its cases are named in a match.
+impl TryFrom<u8> for Layer {
+    type Error = NoSuchNumber;
+
+    ghost try_from_gives = { NamesLayer };
+
+    fn try_from(number: u8) -> Result<Layer, NoSuchNumber> {
+        Ok(match number {
             1 => Layer::Frame,
             2 => Layer::Sheet,
             3 => Layer::Book,
@@ -36,7 +59,7 @@ impl Layer {
             6 => Layer::Surcharge,
             7 => Layer::List,
             8 => Layer::WholeText,
-            _ => return None,
+            _ => return Err(NoSuchNumber(number)),
         })
     }
 }

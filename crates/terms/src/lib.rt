@@ -7,3 +7,4 @@ pub mod layer;
 pub mod limits;
 pub mod money;
 pub mod refusal;
+pub mod unknown;

@@ -67,6 +67,7 @@ fn capped(n: u128) -> u64
 
 impl Quotation {
     // So many units at a price.
+    #[tactic(auto, using(crate::proofs::Products::product_96))]
     pub fn at_price(quantity: u64, price: u32) -> Quotation
         ensures { result.units ≡ at_price_lem quantity price }
     {
@@ -76,6 +77,8 @@ impl Quotation {
     }
 
     // The amounts A and V of a position at a currency rate and a duration, if A is at most the limit of a position.
+    // Kept: a rule of the project: A and V stand in a pair.
+    #[tactic(auto, using(crate::proofs::Products::product_128))]
     pub fn valued(self, rate: u32, duration: u32) -> Option<(Zloty, Zloty)>
         ensures { result ≡ valuation self.units rate duration }
     {
@@ -113,6 +116,9 @@ impl Zloty {
     }
 
     // A percentage of the amount, to nearest; at most the largest amount, which no percentage up to the whole passes.
+    // Kept: a percentage and a credit differ in their rounding alone; a trait with a law and two impls is no plainer than two
+    // bodies of a line.
+    #[tactic(auto, using(crate::proofs::Products::part_fits))]
     pub fn percentage(self, percent: u32) -> Grosz
         ensures grosz { result.grosz ≡ min (percentage percent self.units) (2 ^ 64 - 1) }
         ensures lawful { percent ≤ whole → result.grosz ≡ percentage percent self.units }
@@ -123,6 +129,7 @@ impl Zloty {
     }
 
     // The credit of a percentage of the amount, rounded down; at most the largest amount, which no percentage up to the whole passes.
+    #[tactic(auto, using(crate::proofs::Products::credit_fits))]
     pub fn credit(self, percent: u32) -> Grosz
         ensures grosz { result.grosz ≡ min (credited percent self.units) (2 ^ 64 - 1) }
         ensures lawful { percent ≤ whole → result.grosz ≡ credited percent self.units }
@@ -144,6 +151,8 @@ impl Grosz {
     }
 }
 
+// Kept: a rule of the project: each kind of amount is a struct of its own around an integer, so Zloty and Grosz each have
+// their own Add and AddAssign, and no sum mixes the two.
 impl Add<Zloty> for Zloty {
     type Output = Zloty;
 

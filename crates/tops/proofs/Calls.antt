@@ -5,6 +5,7 @@ use Rattle.std.proofs.lemmas.Int.{ints}
 use Rattle.std.proofs.lemmas.Bool.{cases_Bool}
 use Rattle.terms.specs.declared.layer.Layer.{Layer}
 use Rattle.terms.specs.declared.layer.Layer.TheVariants as layers
+use Rattle.books.specs.declared.booking.Booking.{Booking}
 use Rattle.books.specs.Books.{Answer, Books, booked, booking_answer, no_nets}
 use Rattle.trials.specs.declared.trial.Trial.{Trial}
 use Rattle.trials.specs.Trials.{Commits, nonzero, same_below, trial_left, trial_nets, trial_quantities}
@@ -42,29 +43,29 @@ module _ {B : Type 0} (nets : B → ℕ → ℤ) (left : B → ℕ) (posts : B �
   abbrev laid : Trial B → Tally
   laid t = trial_tally (trial_nets t) (trial_left t) (nets t.below) (left t.below)
 
-  pub bare_booking : (before after : B) (security : ℕ) (quantity : ℤ) (r : Answer) → Books nets left posts layer before security quantity r after
-      → (r ≡ decide (bare_rules layer) (bare before) (Book security quantity)) × (bare after ≡ fed (bare_rules layer) (bare before) (Book security quantity) (is_ok r))
-  bare_booking before after security quantity r h = (
-    h.decided ∙ ap (λ n. booking_answer layer n (left before) security quantity) (sym (shown_bare (nets before))),
+  pub bare_booking : (before after : B) (b : Booking) (r : Answer) → Books nets left posts layer before b.security b.quantity r after
+      → (r ≡ decide (bare_rules layer) (bare before) (Book b)) × (bare after ≡ fed (bare_rules layer) (bare before) (Book b) (is_ok r))
+  bare_booking before after b r h = (
+    h.decided ∙ ap (λ n. booking_answer layer n (left before) b.security b.quantity) (sym (shown_bare (nets before))),
     ⊎_elim
         (λ ok.
         let spent : left after ≡ left before - 1 = omega (arith, h.spent ok) in
-        same_tally (h.moved ok) refl spent refl ∙ ap (fed (bare_rules layer) (bare before) (Book security quantity)) (sym ok))
-        (λ err. ap bare (h.refused err) ∙ ap (fed (bare_rules layer) (bare before) (Book security quantity)) (sym err))
+        same_tally (h.moved ok) refl spent refl ∙ ap (fed (bare_rules layer) (bare before) (Book b)) (sym ok))
+        (λ err. ap bare (h.refused err) ∙ ap (fed (bare_rules layer) (bare before) (Book b)) (sym err))
         (cases_Bool (is_ok r)),
   )
 
-  pub trial_booking : (before after : Trial B) (security : ℕ) (quantity : ℤ) (r : Answer) → Books trial_nets trial_left same_below layers.Trial before security quantity r after
-      → (r ≡ decide trial_rules (laid before) (Book security quantity)) × (laid after ≡ fed trial_rules (laid before) (Book security quantity) (is_ok r))
-  trial_booking before after security quantity r h = (
-    h.decided ∙ ap (λ n. booking_answer layers.Trial n (trial_left before) security quantity) (sym (shown (trial_nets before) (nets before.below))),
+  pub trial_booking : (before after : Trial B) (b : Booking) (r : Answer) → Books trial_nets trial_left same_below layers.Trial before b.security b.quantity r after
+      → (r ≡ decide trial_rules (laid before) (Book b)) × (laid after ≡ fed trial_rules (laid before) (Book b) (is_ok r))
+  trial_booking before after b r h = (
+    h.decided ∙ ap (λ n. booking_answer layers.Trial n (trial_left before) b.security b.quantity) (sym (shown (trial_nets before) (nets before.below))),
     ⊎_elim
         (λ ok.
         let same = ap nets (h.posted ok) in
-        let trial = (λ i. trial_quantities (h.moved ok i) (same i)) ∙ booked_trial (trial_nets before) (nets before.below) security quantity in
+        let trial = (λ i. trial_quantities (h.moved ok i) (same i)) ∙ booked_trial (trial_nets before) (nets before.below) b.security b.quantity in
         let spent : trial_left after ≡ trial_left before - 1 = omega (arith, h.spent ok) in
-        same_tally same trial spent (ap left (h.posted ok)) ∙ ap (fed trial_rules (laid before) (Book security quantity)) (sym ok))
-        (λ err. ap laid (h.refused err) ∙ ap (fed trial_rules (laid before) (Book security quantity)) (sym err))
+        same_tally same trial spent (ap left (h.posted ok)) ∙ ap (fed trial_rules (laid before) (Book b)) (sym ok))
+        (λ err. ap laid (h.refused err) ∙ ap (fed trial_rules (laid before) (Book b)) (sym err))
         (cases_Bool (is_ok r)),
   )
 

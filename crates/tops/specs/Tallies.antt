@@ -5,7 +5,7 @@ use Rattle.terms.specs.declared.layer.Layer.{Layer}
 use Rattle.terms.specs.declared.layer.Layer.TheVariants as layers
 use Rattle.tops.specs.declared.call.Call.{Call}
 use Rattle.tops.specs.declared.call.Call.TheVariants.{Book, Own}
-use Rattle.tops.specs.declared.call.NoCall.{NoCall}
+use Rattle.std.specs.declared.convert.Infallible.{Infallible}
 use Rattle.tops.specs.declared.call.TrialCall.{TrialCall}
 use Rattle.tops.specs.declared.call.TrialCall.TheVariants.{Commit, Drop}
 use Rattle.books.specs.Books.{Answer, booked, booking_answer, no_nets}
@@ -52,7 +52,7 @@ abbrev pub trial_rules : Rules TrialCall
 trial_rules = record { layer = layers.Trial; on_trial = true; means = λ o. o }
 
 -- with no trial layer there is nothing but bookings
-abbrev pub bare_rules : Layer → Rules NoCall
+abbrev pub bare_rules : Layer → Rules Infallible
 bare_rules layer = record { layer = layer; on_trial = false; means = λ o. elim o [ ] }
 
 -- the tally that a bare book shows
@@ -73,11 +73,11 @@ module _ {O : Type 0} (rules : Rules O) where
 
   -- what the tally decides of a call
   abbrev pub decide : Tally → Call O → Answer
-  decide t (Book security quantity) = booking_answer rules.layer (tally_nets t) t.left security quantity
+  decide t (Book b) = booking_answer rules.layer (tally_nets t) t.left b.security b.quantity
   decide t (Own o) = trial_answer t (rules.means o)
 
   -- the tally after a call, by whether it was accepted
   abbrev pub fed : Tally → Call O → Bool → Tally
   fed t c false = t
-  fed t (Book security quantity) true = cond rules.on_trial (add_trial t security quantity) (add_kept t security quantity)
+  fed t (Book b) true = cond rules.on_trial (add_trial t b.security b.quantity) (add_kept t b.security b.quantity)
   fed t (Own o) true = trial_fed t (rules.means o)

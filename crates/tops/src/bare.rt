@@ -3,9 +3,11 @@ ghost use Rattle.std.specs.Prelude.{◌≡◌, false, is_ok};
 ghost use Rattle.tops.specs.Tallies.{bare_rules, bare_tally, decide, fed};
 ghost use Rattle.std.proofs.Common.{rules};
 
-use crate::call::{Call, NoCall};
+use crate::call::Call;
 use crate::top::Top;
 use books::book::{Book, Positions};
+use books::booking::Booking;
+use std::convert::Infallible;
 use terms::fault::Fault;
 
 // The book itself.
@@ -23,12 +25,12 @@ impl<B: Book> Bare<B> {
     }
 
     // A booking, by the tally.
-    fn take(&mut self, security: u16, quantity: i64) -> Result<(), Fault>
-        ensures answer { result ≡ decide (bare_rules B.Positions.layer) (bare_tally (B.Positions.nets self.old.book) (B.Book.left self.old.book)) (Call.Book security quantity) }
-        ensures tally { bare_tally (B.Positions.nets self.new.book) (B.Book.left self.new.book) ≡ fed (bare_rules B.Positions.layer) (bare_tally (B.Positions.nets self.old.book) (B.Book.left self.old.book)) (Call.Book security quantity) (is_ok result) }
+    fn take(&mut self, booking: Booking) -> Result<(), Fault>
+        ensures answer { result ≡ decide (bare_rules B.Positions.layer) (bare_tally (B.Positions.nets self.old.book) (B.Book.left self.old.book)) (Call.Book booking) }
+        ensures tally { bare_tally (B.Positions.nets self.new.book) (B.Book.left self.new.book) ≡ fed (bare_rules B.Positions.layer) (bare_tally (B.Positions.nets self.old.book) (B.Book.left self.old.book)) (Call.Book booking) (is_ok result) }
         ensures refused { is_ok result ≡ false → self.new ≡ self.old }
     {
-        self.book(security, quantity)
+        self.book(booking)
     }
 }
 
@@ -55,15 +57,16 @@ impl<B: Book> Book for Bare<B> {
         self.book.bookings_left()
     }
 
-    fn book(&mut self, security: u16, quantity: i64) -> Result<(), Fault> {
-        self.book.book(security, quantity)
+    fn book(&mut self, booking: Booking) -> Result<(), Fault> {
+        self.book.book(booking)
     }
 }
 
 impl<B: Book> Top for Bare<B> {
     type Below = B;
 
-    type Own = NoCall;
+    // There are no other calls.
+    type Own = Infallible;
 
     ghost tally = { λ b. bare_tally (B.Positions.nets b.book) (B.Book.left b.book) };
 
@@ -77,9 +80,9 @@ impl<B: Book> Top for Bare<B> {
         Bare::open(below)
     }
 
-    fn call(&mut self, call: &Call<NoCall>) -> Result<(), Fault> {
+    fn call(&mut self, call: &Call<Infallible>) -> Result<(), Fault> {
         match call {
-            Call::Book { security, quantity } => self.take(*security, *quantity),
+            Call::Book(booking) => self.take(*booking),
             Call::Own(own) => match *own {},
         }
     }

@@ -28,7 +28,7 @@ impl<B: Book> Top for Trial<B> {
 
     fn call(&mut self, call: &Call<TrialCall>) -> Result<(), Fault> {
         match call {
-            Call::Book { security, quantity } => self.book(*security, *quantity),
+            Call::Book(booking) => self.book(*booking),
             Call::Own(own) => match own {
                 TrialCall::Commit => self.commit(),
                 TrialCall::Drop => {

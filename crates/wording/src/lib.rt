@@ -1,5 +1,4 @@
-// Plain words and human units, for what programs print.
+// Human units, for what programs print.
 #![tactic(auto)]
 
-pub mod refusals;
 pub mod units;

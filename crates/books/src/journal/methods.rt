@@ -10,12 +10,11 @@ ghost use Rattle.terms.specs.Limits.{booking_limit};
 use super::Journal;
 use crate::book::{Book, Positions};
 use crate::booking::Booking;
-use crate::judge::judge;
+use crate::judge::{judge, known};
 use lists::list::List;
 use terms::fault::Fault;
 use terms::layer::Layer;
-use terms::limits::{BOOKINGS, SECURITIES};
-use terms::refusal::Refusal;
+use terms::limits::BOOKINGS;
 
 // What a booking adds to the net of a security.
 fn share_of(booking: Booking, security: u16) -> i64
@@ -47,24 +46,10 @@ impl<'a> Journal<'a> {
         ensures { result ≡ total (items self.now.list) security }
     {
         let mut sum = 0;
-        for at in 0..self.list.count() {
-            match self.list.read(at) {
-                Ok(booking) => sum += share_of(booking, security),
-                Err(_) => unreachable(),
-            }
+        for booking in self.list.records() {
+            sum += share_of(*booking, security);
         }
         sum
-    }
-
-    // Lists a booking, where nothing refuses it.
-    fn enter(&mut self, booking: Booking) -> Result<(), Fault>
-        ensures { Books journal_nets journal_left journal_posts layers.Book self.old booking.security booking.quantity result self.new }
-    {
-        let Booking { security, quantity } = booking;
-        let net = self.sum(security);
-        let left = self.free_places();
-        judge(Layer::Book, security, quantity, left, net)?;
-        self.list.append(booking)
     }
 
     // How many of the places that the journal uses are free.
@@ -85,13 +70,7 @@ impl<'a> Positions for Journal<'a> {
     ghost absent = { journal_absent };
 
     fn net(&self, security: u16) -> Result<i64, Fault> {
-        if security as usize >= SECURITIES {
-            return Err(Fault {
-                refusal: Refusal::UnknownSecurity,
-                layer: Layer::Book,
-                place: security,
-            });
-        }
+        known(Layer::Book, security)?;
         Ok(self.sum(security))
     }
 }
@@ -106,7 +85,10 @@ impl<'a> Book for Journal<'a> {
         self.free_places()
     }
 
-    fn book(&mut self, security: u16, quantity: i64) -> Result<(), Fault> {
-        self.enter(Booking { security, quantity })
+    fn book(&mut self, booking: Booking) -> Result<(), Fault> {
+        let net = self.sum(booking.security);
+        let left = self.free_places();
+        judge(Layer::Book, booking, left, net)?;
+        self.list.append(booking)
     }
 }

@@ -7,6 +7,7 @@ use super::Ledger;
 use crate::book::{Positions, net_of};
 use crate::booking::Booking;
 use crate::judge::judge;
+use std::array;
 use terms::fault::Fault;
 use terms::layer::Layer;
 use terms::limits::SECURITIES;
@@ -37,10 +38,7 @@ impl Ledger {
     fn with_nets_of<B: Positions>(book: &B) -> Self
         ensures { ledger_nets result ≡ B.Positions.nets book.now }
     {
-        let mut nets = [0; SECURITIES];
-        for security in 0..SECURITIES as u16 {
-            nets[security as usize] = net_of(book, security);
-        }
+        let nets = array::from_fn(|security| net_of(book, security as u16));
         Ledger { nets, left: 0 }
     }
 
@@ -53,19 +51,12 @@ impl Ledger {
     }
 
     // A booking, or a fault of this layer.
-    pub fn book(&mut self, layer: Layer, security: u16, quantity: i64) -> Result<(), Fault>
-        ensures { Books ledger_nets ledger_left no_more layer self.old security quantity result self.new }
-    {
-        self.enter(layer, Booking { security, quantity })
-    }
-
-    // The same of a booking as it is written down.
-    fn enter(&mut self, layer: Layer, booking: Booking) -> Result<(), Fault>
+    pub fn book(&mut self, layer: Layer, booking: Booking) -> Result<(), Fault>
         ensures { Books ledger_nets ledger_left no_more layer self.old booking.security booking.quantity result self.new }
     {
         let Booking { security, quantity } = booking;
         let net = self.net_at(security);
-        judge(layer, security, quantity, self.left, net)?;
+        judge(layer, booking, self.left, net)?;
         self.nets[security as usize] = net + quantity;
         self.left -= 1;
         Ok(())

@@ -5,10 +5,9 @@ ghost use Rattle.terms.specs.Questions.{answer};
 ghost use Rattle.std.specs.Prelude.{◌≡◌};
 
 use super::Ledger;
+use crate::judge::known;
 use terms::fault::Fault;
 use terms::layer::Layer;
-use terms::limits::SECURITIES;
-use terms::refusal::Refusal;
 
 impl Ledger {
     // How many bookings are left.
@@ -22,21 +21,14 @@ impl Ledger {
     pub fn net_at(&self, security: u16) -> i64
         ensures { result ≡ ledger_nets self.now security }
     {
-        let at = security as usize;
-        if at < SECURITIES { self.nets[at] } else { 0 }
+        self.nets.get(security as usize).copied().unwrap_or(0)
     }
 
     // The net of a security, or a fault of this layer.
     pub fn net(&self, layer: Layer, security: u16) -> Result<i64, Fault>
         ensures { result ≡ answer layer security (ledger_nets self.now security) (reading_refusal security) }
     {
-        if security as usize >= SECURITIES {
-            return Err(Fault {
-                refusal: Refusal::UnknownSecurity,
-                layer,
-                place: security,
-            });
-        }
+        known(layer, security)?;
         Ok(self.net_at(security))
     }
 }

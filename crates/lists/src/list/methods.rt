@@ -2,34 +2,14 @@
 ghost use Rattle.std.specs.Prelude.{◌≡◌, ℕ, ◌+◌, ◌<◌, ◌≤◌, [], ◌∷◌, ◌++◌, length, take, slice_set};
 ghost use Rattle.lists.specs.Lists.{items, lender, memory, Appends, Cleared, Reads};
 
-use super::List;
+use super::{List, NO_SUCH_PLACE};
 use terms::fault::Fault;
-use terms::layer::Layer;
-use terms::refusal::Refusal;
 
-// The refusal of a list: there is no such place.
-const NO_SUCH_PLACE: Fault = Fault {
-    refusal: Refusal::NoSuchPlace,
-    layer: Layer::List,
-    place: 0,
-};
-
-// How many of `places` are filled.
-fn filled<T>(places: &[T], len: usize) -> usize
-    ensures count { result ≡ length (take len places.now) }
-    ensures within { result ≤ length places.now }
+// The first `len` places, as far as there are so many.
+fn filled<T>(places: &[T], len: usize) -> &[T]
+    ensures { result.now ≡ take len places.now }
 {
-    len.min(places.len())
-}
-
-// The record at `at`, where the first `len` places are filled.
-fn record_at<T: Copy>(places: &[T], len: usize, at: usize) -> Result<T, Fault>
-    ensures { Reads (take len places.now) at result }
-{
-    if at >= filled(places, len) {
-        return Err(NO_SUCH_PLACE);
-    }
-    Ok(places[at])
+    &places[..len.min(places.len())]
 }
 
 // Writes `x` into the place `at`.
@@ -54,6 +34,13 @@ impl<'a, T> List<'a, T> {
     // How many records there are.
     pub fn count(&self) -> usize
         ensures { result ≡ length (items self.now) }
+    {
+        self.records().len()
+    }
+
+    // The records, the oldest first.
+    pub fn records(&self) -> &[T]
+        ensures { result.now ≡ items self.now }
     {
         filled(self.places, self.len)
     }
@@ -95,6 +82,6 @@ impl<'a, T: Copy> List<'a, T> {
     pub fn read(&self, at: usize) -> Result<T, Fault>
         ensures { Reads (items self.now) at result }
     {
-        record_at(self.places, self.len, at)
+        self.records().get(at).copied().ok_or(NO_SUCH_PLACE)
     }
 }

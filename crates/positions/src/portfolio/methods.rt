@@ -15,6 +15,7 @@ use terms::money::Zloty;
 
 impl Portfolio {
     // The portfolio in a book by the rows of a sheet, or the refusal of the first held security that has one.
+    #[tactic(auto, using(crate::proofs::Agreeing::positions_small))]
     pub fn value<P: Positions, S: Sheet>(book: &P, sheet: &S) -> Result<Portfolio, Fault>
         ensures { Opens (S.Sheet.rows sheet.now) (P.Positions.nets book.now) result }
     {
@@ -23,6 +24,7 @@ impl Portfolio {
     }
 
     // The bought and the sold sum of a class, PK and PS.
+    // Kept: a rule of the project: a class is summed up as the pair (PK, PS).
     pub fn class_sums(&self, class: u16) -> (Zloty, Zloty)
         ensures bought { result.0.units ≡ bought_in (positions_of self.now) class security_count }
         ensures sold { result.1.units ≡ sold_in (positions_of self.now) class security_count }

@@ -9,7 +9,7 @@ use super::RowTable;
 use rules::rows::{ClassRow, PairRow, SecurityRow};
 use terms::fault::Fault;
 use terms::layer::Layer;
-use terms::limits::{CLASSES, PAIRS, SECURITIES};
+use terms::limits::{CLASSES, SECURITIES};
 use terms::refusal::Refusal;
 
 impl RowTable {
@@ -26,11 +26,7 @@ impl RowTable {
         } else {
             return Ok(());
         };
-        Err(Fault {
-            refusal,
-            layer: Layer::Sheet,
-            place: class,
-        })
+        Err(Layer::Sheet.fault(class, refusal))
     }
 
     // Whether a security may have this row.
@@ -46,11 +42,7 @@ impl RowTable {
                 Some(_) => Refusal::UnlawfulSecurity,
             }
         };
-        Err(Fault {
-            refusal,
-            layer: Layer::Sheet,
-            place: security,
-        })
+        Err(Layer::Sheet.fault(security, refusal))
     }
 
     // Whether this pair may come last in the order.
@@ -61,7 +53,7 @@ impl RowTable {
             (Some(one), Some(other)) if pair.first != pair.second && one.kind == other.kind => {
                 if pair.crt > one.y || pair.crt > other.y {
                     Refusal::CreditAboveRate
-                } else if self.count >= PAIRS {
+                } else if self.pairs.is_full() {
                     Refusal::TooManyPairs
                 } else {
                     return Ok(());
@@ -69,10 +61,6 @@ impl RowTable {
             }
             _ => Refusal::UnlawfulPair,
         };
-        Err(Fault {
-            refusal,
-            layer: Layer::Sheet,
-            place: pair.first,
-        })
+        Err(Layer::Sheet.fault(pair.first, refusal))
     }
 }

@@ -4,15 +4,9 @@ ghost use Rattle.sheets.specs.Filled.{table_rows};
 ghost use Rattle.std.specs.Prelude.{◌≡◌, None as Nothing};
 
 use super::RowTable;
+use arrayvec::ArrayVec;
 use rules::rows::{ClassRow, PairRow, SecurityRow};
-use terms::limits::{CLASSES, PAIRS, SECURITIES};
-
-// What stands in a place of the pairs that is not filled.
-const NO_PAIR: PairRow = PairRow {
-    first: 0,
-    second: 0,
-    crt: 0,
-};
+use terms::limits::{CLASSES, SECURITIES};
 
 impl RowTable {
     // No place is filled.
@@ -22,12 +16,13 @@ impl RowTable {
         RowTable {
             classes: [None; CLASSES],
             securities: [None; SECURITIES],
-            pairs: [NO_PAIR; PAIRS],
-            count: 0,
+            pairs: ArrayVec::new(),
         }
     }
 
     // Fills the place of a class, once its questions are answered.
+    // Kept: each kind of row fills another array and keeps other laws, so that one generic method would need both as parameters.
+    #[tactic(auto, using(crate::proofs::Filling::class_filled, crate::proofs::Filling::class_kept))]
     pub(crate) fn put_class(&mut self, class: u16, row: ClassRow)
         requires { class_refusal (table_rows self.old) class row ≡ Nothing }
         ensures { table_rows self.new ≡ with_class (table_rows self.old) class row }
@@ -36,6 +31,7 @@ impl RowTable {
     }
 
     // Fills the place of a security, once its questions are answered.
+    #[tactic(auto, using(crate::proofs::Filling::security_filled, crate::proofs::Filling::security_kept))]
     pub(crate) fn put_security(&mut self, security: u16, row: SecurityRow)
         requires { security_refusal (table_rows self.old) security row ≡ Nothing }
         ensures { table_rows self.new ≡ with_security (table_rows self.old) security row }
@@ -43,12 +39,11 @@ impl RowTable {
         self.securities[security as usize] = Some(row);
     }
 
-    // Fills the next place of the pairs, once its questions are answered.
+    // A pair more, once its questions are answered.
     pub(crate) fn put_pair(&mut self, pair: PairRow)
         requires { pair_refusal (table_rows self.old) pair ≡ Nothing }
         ensures { table_rows self.new ≡ with_pair (table_rows self.old) pair }
     {
-        self.pairs[self.count] = pair;
-        self.count += 1;
+        self.pairs.push(pair);
     }
 }

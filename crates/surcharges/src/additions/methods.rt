@@ -3,8 +3,9 @@ ghost use Rattle.surcharges.specs.Additions.{addition_in, additions_in};
 ghost use Rattle.surcharges.specs.Surcharges.{Sets, no_additions, setting_answer};
 ghost use Rattle.std.specs.Prelude.{◌≡◌};
 
-use super::{Addition, AdditionTable};
+use super::AdditionTable;
 use crate::setting::Setting;
+use rules::rows::Addition;
 use terms::fault::Fault;
 use terms::layer::Layer;
 use terms::limits::{CLASSES, WHOLE};
@@ -19,16 +20,12 @@ fn judge(setting: Setting) -> Result<(), Fault>
 {
     let refusal = if setting.class as usize >= CLASSES {
         Refusal::UnknownSurchargeClass
-    } else if setting.y > WHOLE || setting.x > WHOLE {
+    } else if setting.addition.y > WHOLE || setting.addition.x > WHOLE {
         Refusal::AdditionOutOfRange
     } else {
         return Ok(());
     };
-    Err(Fault {
-        refusal,
-        layer: Layer::Surcharge,
-        place: setting.class,
-    })
+    Err(Layer::Surcharge.fault(setting.class, refusal))
 }
 
 impl AdditionTable {
@@ -45,12 +42,7 @@ impl AdditionTable {
     pub(crate) fn of(&self, class: u16) -> Addition
         ensures { result ≡ addition_in self.now class }
     {
-        let at = class as usize;
-        if at < CLASSES {
-            self.classes[at]
-        } else {
-            NOTHING
-        }
+        self.classes.get(class as usize).copied().unwrap_or(NOTHING)
     }
 
     // Replaces the additions of a class.
@@ -58,10 +50,7 @@ impl AdditionTable {
         ensures { Sets additions_in self.old setting result self.new }
     {
         judge(setting)?;
-        self.classes[setting.class as usize] = Addition {
-            y: setting.y,
-            x: setting.x,
-        };
+        self.classes[setting.class as usize] = setting.addition;
         Ok(())
     }
 }

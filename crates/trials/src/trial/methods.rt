@@ -4,54 +4,23 @@ ghost use Rattle.books.specs.Books.{Books};
 ghost use Rattle.books.specs.Ledgers.{ledger_absent, ledger_limited, ledger_nets};
 ghost use Rattle.terms.specs.Limits.{security_count, trial_limit};
 ghost use Rattle.terms.specs.declared.layer.Layer.TheVariants as layers;
-ghost use Rattle.trials.specs.Trials.{Commits, Taken, nonzero, postings, same_below, trial_left, trial_nets, trial_quantities};
+ghost use Rattle.trials.specs.Trials.{Commits, Taken, moves, nonzero, postings, same_below, trial_left, trial_nets, trial_quantities};
 
 use super::Trial;
 use books::book::{Book, Positions, net_of};
+use books::booking::Booking;
 use books::ledger::Ledger;
 use terms::fault::Fault;
 use terms::layer::Layer;
 use terms::limits::{SECURITIES, TRIAL_BOOKINGS};
 use terms::refusal::Refusal;
 
-// What the layer has above the book below.
-fn trial_quantity<B: Positions>(above: &Ledger, below: &B, security: u16) -> i64
-    ensures { result ≡ trial_quantities (ledger_nets above.now) (B.Positions.nets below.now) security }
-{
-    above.net_at(security) - net_of(below, security)
-}
-
-// How many trial quantities are other than 0.
-fn trial_count<B: Positions>(above: &Ledger, below: &B) -> u32
-    ensures { result ≡ nonzero (trial_quantities (ledger_nets above.now) (B.Positions.nets below.now)) }
-{
-    let mut count = 0;
-    for security in 0..SECURITIES as u16 {
-        if trial_quantity(above, below, security) != 0 {
-            count += 1;
-        }
-    }
-    count
-}
-
-// Posts one booking for each trial quantity other than 0, by rising security. None is refused: the book below comes to
-// the nets of the layer, which keep to the limit.
-fn post<B: Book>(above: &Ledger, below: &mut B)
-    requires { nonzero (trial_quantities (ledger_nets above.now) (B.Positions.nets below.old)) ≤ B.Book.left below.old }
-    ensures nets { B.Positions.nets below.new ≡ ledger_nets above.now }
-    ensures left { B.Book.left below.new + nonzero (trial_quantities (ledger_nets above.now) (B.Positions.nets below.old)) ≡ B.Book.left below.old }
-    ensures taken { Taken B.Positions.nets B.Book.left B.Book.posts B.Positions.layer below.old (postings (trial_quantities (ledger_nets above.now) (B.Positions.nets below.old)) security_count) below.new }
-{
-    for security in 0..SECURITIES as u16 {
-        let quantity = trial_quantity(above, below, security);
-        if quantity != 0 {
-            match below.book(security, quantity) {
-                Ok(()) => {}
-                Err(_) => unreachable(),
-            }
-        }
-    }
-}
+// The refusal of a commit: the book below has too few bookings left.
+const TOO_FEW_BOOKINGS_BELOW: Fault = Fault {
+    refusal: Refusal::TooFewBookingsBelow,
+    layer: Layer::Trial,
+    place: 0,
+};
 
 impl<B: Book> Trial<B> {
     // Every trial quantity is 0, and 1,000 bookings are left.
@@ -64,18 +33,55 @@ impl<B: Book> Trial<B> {
         Trial { below, above }
     }
 
+    // What the layer has above the book below.
+    fn trial_quantity(&self, security: u16) -> i64
+        ensures { result ≡ trial_quantities (trial_nets self.now) (B.Positions.nets self.now.below) security }
+    {
+        self.above.net_at(security) - net_of(&self.below, security)
+    }
+
+    // Whether the layer has another net than the book below.
+    fn is_moved(&self, security: u16) -> bool
+        ensures { result ≡ moves (trial_quantities (trial_nets self.now) (B.Positions.nets self.now.below)) security }
+    {
+        self.trial_quantity(security) != 0
+    }
+
+    // How many trial quantities are other than 0.
+    fn trial_count(&self) -> u32
+        ensures { result ≡ nonzero (trial_quantities (trial_nets self.now) (B.Positions.nets self.now.below)) }
+    {
+        (0..SECURITIES as u16)
+            .filter(|security| self.is_moved(*security))
+            .count() as u32
+    }
+
+    // Posts one booking for each trial quantity other than 0, by rising security. None is refused: the book below comes to
+    // the nets of the layer, which keep to the limit.
+    fn post(&mut self)
+        requires { nonzero (trial_quantities (trial_nets self.old) (B.Positions.nets self.old.below)) ≤ B.Book.left self.old.below }
+        ensures above { self.new.above ≡ self.old.above }
+        ensures nets { B.Positions.nets self.new.below ≡ trial_nets self.old }
+        ensures left { B.Book.left self.new.below + nonzero (trial_quantities (trial_nets self.old) (B.Positions.nets self.old.below)) ≡ B.Book.left self.old.below }
+        ensures taken { Taken B.Positions.nets B.Book.left B.Book.posts B.Positions.layer self.old.below (postings (trial_quantities (trial_nets self.old) (B.Positions.nets self.old.below)) security_count) self.new.below }
+    {
+        // Kept: the loop goes over security numbers, and indexes nothing.
+        for security in 0..SECURITIES as u16 {
+            let quantity = self.trial_quantity(security);
+            if quantity != 0 {
+                self.below.book(Booking { security, quantity }).unwrap();
+            }
+        }
+    }
+
     // Posts the trial quantities to the book below, and gives back all bookings of the layer.
     pub fn commit(&mut self) -> Result<(), Fault>
         ensures { Commits B.Positions.nets B.Book.left B.Book.posts B.Positions.layer self.old result self.new }
     {
-        if self.below.bookings_left() < trial_count(&self.above, &self.below) {
-            return Err(Fault {
-                refusal: Refusal::TooFewBookingsBelow,
-                layer: Layer::Trial,
-                place: 0,
-            });
+        if self.below.bookings_left() < self.trial_count() {
+            return Err(TOO_FEW_BOOKINGS_BELOW);
         }
-        post(&self.above, &mut self.below);
+        self.post();
         self.above.renew(TRIAL_BOOKINGS as u32);
         Ok(())
     }
@@ -114,7 +120,7 @@ impl<B: Book> Book for Trial<B> {
         self.above.bookings_left()
     }
 
-    fn book(&mut self, security: u16, quantity: i64) -> Result<(), Fault> {
-        self.above.book(Layer::Trial, security, quantity)
+    fn book(&mut self, booking: Booking) -> Result<(), Fault> {
+        self.above.book(Layer::Trial, booking)
     }
 }

@@ -1,4 +1,4 @@
-use Rattle.std.proofs.Common.{◌≡◌, ℕ, ◌<◌, get_or, drop}
+use Rattle.std.proofs.Common.{◌≡◌, ℕ, ◌<◌, length, get_or}
 use Rattle.positions.specs.Portfolios.{positions_of}
 use Rattle.terms.specs.Limits.{class_count}
 use Rattle.deposits.specs.Told.{none}
@@ -7,5 +7,5 @@ use Rattle.deposits.proofs.open.open_classes.Given as goal
 
 abbrev pub invariant-loop-class : goal.invariant-loop-class
 invariant-loop-class g l =
-    ((k : ℕ) → k < l.class → get_or l.classes k none ≡ opened (g.S.Sheet.rows l.sheet) (positions_of l.portfolio) k)
-    × (drop class_count l.classes ≡ drop class_count l.initial.classes)
+    (length l.classes ≡ class_count)
+    × ((k : ℕ) → k < l.class → get_or l.classes k none ≡ opened (g.S.Sheet.rows l.sheet) (positions_of l.portfolio) k)

@@ -7,14 +7,11 @@ use Rattle.deposits.proofs.total.total.Goals as goal
 pub loop-class-init : goal.loop-class-init
 loop-class-init c = (sym (sum_none _), omega arith)
 
-pub add_assign-requires : goal.add_assign-requires
-add_assign-requires c = omega (arith, c.loop-class.invariant.1, c.requires.small c.loop-class.class c.loop-class-test.true)
-
 pub loop-class-preserved : goal.loop-class-preserved
 loop-class-preserved c =
-    let i = c.loop-class.class in
+    let i = c.loop-class.class-index in
     let f : ℕ → ℕ = λ k. (get_or c.args.classes.now k none).dolr.grosz in
     let next : c.add_assign.new.self.grosz ≡ c.loop-class.total.grosz + f i = ap (λ (g : Grosz). g.grosz) c.add_assign.ensures.after in (
       next ∙ ap (λ (n : ℕ). n + f i) c.loop-class.invariant.0 ∙ sym (sum_more i f),
-      omega (arith, next, c.loop-class.invariant.1, c.requires.small i c.loop-class-test.true),
+      omega (arith, next, c.loop-class.invariant.1, c.requires i c.loop-class-test.true),
     )

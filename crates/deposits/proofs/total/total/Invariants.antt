@@ -5,4 +5,4 @@ use Rattle.deposits.specs.Told.{none}
 use Rattle.deposits.proofs.total.total.Given as goal
 
 abbrev pub invariant-loop-class : goal.invariant-loop-class
-invariant-loop-class l = (l.total.grosz ≡ sum_below l.class (λ c. (get_or l.classes c none).dolr.grosz)) × (l.total.grosz ≤ l.class * deposit_limit)
+invariant-loop-class l = (l.total.grosz ≡ sum_below l.class-index (λ c. (get_or l.classes c none).dolr.grosz)) × (l.total.grosz ≤ l.class-index * deposit_limit)

@@ -1,47 +1,33 @@
-use Rattle.std.proofs.Common.{◌∙◌, arith, SFits, rules}
+use Rattle.std.proofs.Common.{◌∙◌, SFits, rules}
 use mir.Syntax.{w128}
 use Rattle.std.proofs.lemmas.Int.{to_z-of_z}
-use Rattle.exact.proofs.Telling.{small, fresh, left_small, capped, total_is}
+use Rattle.exact.proofs.Telling.{small, left_small, small_walked, total_is}
 use Rattle.exact.proofs.margin.settle.Goals as goal
 
-pub net_values-lefts-requires : goal.net_values-lefts-requires
-net_values-lefts-requires g c =
-    let s = small (g.S.Sheet.rows c.args.sheet.now) (g.S.Sheet.lawful c.args.sheet.now) (g.P.Positions.nets c.args.book.now) c.requires c.class_sums-sums.result c.class_sums-sums.ensures in
-    record { long = c.class_sums-sums.ensures.long; bought = λ k l. omega (arith, s k l); sold = λ k l. omega (arith, s k l) }
+pub open_classes-classes-requires : goal.open_classes-classes-requires
+open_classes-classes-requires g c =
+    small (g.S.Sheet.rows c.args.sheet.now) (g.S.Sheet.lawful c.args.sheet.now) (g.P.Positions.nets c.args.book.now) c.requires c.class_sums.result c.class_sums.ensures
 
-pub walk-requires : goal.walk-requires
-walk-requires g c =
-    let rows = g.S.Sheet.rows c.args.sheet.now in
-    let lawful = g.S.Sheet.lawful c.args.sheet.now in
-    let nets = g.P.Positions.nets c.args.book.now in
-    let xs = c.class_sums-sums.result in
-    let ls = c.net_values-lefts.result in
-    record {
-      places = c.net_values-lefts.ensures.long;
-      fresh = fresh rows lawful nets c.requires xs c.class_sums-sums.ensures ls c.net_values-lefts.ensures.opened;
-      small = left_small rows lawful nets c.requires xs c.class_sums-sums.ensures ls c.net_values-lefts.ensures.opened;
-    }
+pub walk-requires-clause-small : goal.walk-requires-clause-small
+walk-requires-clause-small g c =
+    left_small (g.S.Sheet.rows c.args.sheet.now) (g.S.Sheet.lawful c.args.sheet.now) (g.P.Positions.nets c.args.book.now) c.requires c.class_sums.result c.class_sums.ensures
+    c.open_classes-classes.result c.open_classes-classes.ensures.opened
 
 pub total-requires : goal.total-requires
 total-requires g c =
     let rows = g.S.Sheet.rows c.args.sheet.now in
     let lawful = g.S.Sheet.lawful c.args.sheet.now in
     let nets = g.P.Positions.nets c.args.book.now in
-    let xs = c.class_sums-sums.result in
-    let ls = c.net_values-lefts.result in
-    record {
-      long = c.class_sums-sums.ensures.long;
-      wide = omega (arith, c.net_values-lefts.ensures.long);
-      small = small rows lawful nets c.requires xs c.class_sums-sums.ensures;
-      capped = capped rows lawful nets c.requires xs c.class_sums-sums.ensures ls c.net_values-lefts.ensures.opened c.walk.new.lefts c.walk.ensures;
-    }
+    let xs = c.class_sums.result in
+    let cs = c.open_classes-classes.result in
+    small_walked rows lawful nets c.requires xs c.class_sums.ensures cs c.open_classes-classes.ensures.opened c.walk.new.classes c.walk.ensures c.open_classes-classes.ensures.small
 
 pub returns : goal.returns
 returns g c =
     let rows = g.S.Sheet.rows c.args.sheet.now in
     let lawful = g.S.Sheet.lawful c.args.sheet.now in
     let nets = g.P.Positions.nets c.args.book.now in
-    let xs = c.class_sums-sums.result in
-    let ls = c.net_values-lefts.result in
+    let xs = c.class_sums.result in
+    let cs = c.open_classes-classes.result in
     let f : SFits w128 c.total.result = search rules in
-    to_z-of_z w128 c.total.result f ∙ c.total.ensures ∙ total_is rows lawful nets c.requires xs c.class_sums-sums.ensures ls c.net_values-lefts.ensures.opened c.walk.new.lefts c.walk.ensures
+    to_z-of_z w128 c.total.result f ∙ c.total.ensures ∙ total_is rows lawful nets c.requires xs c.class_sums.ensures cs c.open_classes-classes.ensures.opened c.walk.new.classes c.walk.ensures

@@ -1,4 +1,6 @@
-use Rattle.std.proofs.Common.{◌≡◌, ◌-◌, true, false, length, take, Err, sym, ap, ◌∙◌, arith, rules}
+use Rattle.std.proofs.Common.{◌≡◌, true, false, Err, sym, ap, ◌∙◌}
+use Rattle.std.proofs.lemmas.Bool.{some_since}
+use Rattle.std.proofs.lemmas.Option.{MatchOption-at_some}
 use Rattle.std.proofs.lemmas.Result.{err_from_is_err_and}
 use Rattle.terms.proofs.Answered.{answer_ok, answer_err}
 use Rattle.terms.specs.declared.refusal.Refusal.TheVariants.{NotHexadecimal}
@@ -29,20 +31,15 @@ returns-in_err-check g c =
     fields_refused frame.kind (sound _ laws.listed) frame.figures laws.carried laws.chosen laws.told laws.made fields told.0 _ (exit.1 ∙ ap Err (exit.2 ∙ told.2))
     (ap (λ b. ask b NotHexadecimal (fields_refusal frame.kind fields)) digits ∙ told.1)
 
-pub slice_bounds-record_of-end : goal.slice_bounds-record_of-end
-slice_bounds-record_of-end g c = let ok = sound _ g.met.F.Frame.listed in search rules
-
-pub unreachable-requires : goal.unreachable-requires
-unreachable-requires g c =
+pub unwrap-requires : goal.unwrap-requires
+unwrap-requires g c =
     let frame = g.F.Frame in
     let laws = g.met.F.Frame in
     let fields = c.args.fields.now in
     let digits : are_digits fields ≡ true = sym c.if-not-all_digits.ensures in
-    let count : c.shape-count.result.fields - 0 ≡ length frame.kind.widths = omega (arith, c.shape-count.ensures.fields) in
-    let read = ap (λ n. take n c.read_numbers.new.numbers) count ∙ c.read_numbers.ensures in
-    fields_made frame.kind (sound _ laws.listed) frame.figures laws.carried laws.chosen laws.told laws.made fields digits
-    (answer_ok _ _ _ _ (fields_refusal frame.kind fields) c.in_ok-check.ensures)
-    (λ x is. c.in-None.ensures x (is ∙ sym read))
+    some_since c.«record».result _ _ c.«record».ensures
+    (fields_made frame.kind (sound _ laws.listed) frame.figures laws.carried laws.chosen laws.told laws.made fields digits
+    (answer_ok _ _ _ _ (fields_refusal frame.kind fields) c.in_ok-check.ensures))
 
 pub returns : goal.returns
 returns g c =
@@ -50,8 +47,6 @@ returns g c =
     let laws = g.met.F.Frame in
     let fields = c.args.fields.now in
     let digits : are_digits fields ≡ true = sym c.if-not-all_digits.ensures in
-    let count : c.shape-count.result.fields - 0 ≡ length frame.kind.widths = omega (arith, c.shape-count.ensures.fields) in
-    let read = ap (λ n. take n c.read_numbers.new.numbers) count ∙ c.read_numbers.ensures in
     fields_accepted frame.kind (sound _ laws.listed) frame.figures laws.carried laws.chosen laws.told laws.made fields digits
     (answer_ok _ _ _ _ (fields_refusal frame.kind fields) c.in_ok-check.ensures)
-    c.in-Some.found (c.in-Some.ensures ∙ read)
+    c.unwrap.result (MatchOption-at_some _ _ _ c.unwrap.ensures c.«record».ensures)

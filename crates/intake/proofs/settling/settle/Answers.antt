@@ -17,5 +17,4 @@ returns-in-Ok c =
     record {
       fills = subst (λ lines. Fills lines c.args.answer.now c.write_deposit.result c.write_deposit.new.answer)
           (deposit_told rows nets (portfolio_fault rows nets) passed.1 _ told.1.classes _ told.1.summary) c.write_deposit.ensures.fills;
-      size = c.write_deposit.ensures.size;
     }

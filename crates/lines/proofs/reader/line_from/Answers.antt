@@ -1,20 +1,13 @@
-use Rattle.std.proofs.Common.{◌≡◌, ◌+◌, ◌-◌, ◌<◌, ◌∷◌, length, take, drop, sym, ap, ◌∙◌, arith, length-drop, rules}
-use Rattle.std.proofs.lemmas.List.{drop_all}
+use Rattle.std.proofs.Common.{◌≡◌, ◌+◌, ◌-◌, ◌<◌, ◌∷◌, length, take, drop, sym, ap, ◌∙◌, arith, length-drop}
+use Rattle.std.proofs.lemmas.List.{drop_all, drop_min}
 use Rattle.lines.specs.Lines.{first_line, after_line, lines_of}
-use Rattle.lines.proofs.Feeds.{first_take, line_end, after_fed, after_last, lines_first, lines_joined}
+use Rattle.lines.proofs.Feeds.{first_take, line_end, after_fed, lines_first, lines_joined}
 use Rattle.lines.proofs.reader.line_from.Goals as goal
-use Rattle.lines.proofs.reader.line_from.Goals.{then-end-text, else-end-text}
 
 pub returns-then-start-text : goal.returns-then-start-text
 returns-then-start-text c =
     let none = drop_all c.args.start c.args.text.now c.if-start-text.true in
     record { line = none; lines = ap lines_of none; after = ap after_line none; joined = lines_joined c.args.text.now }
-
-pub overflow_add-end : goal.overflow_add-end
-overflow_add-end c = let end = line_end _ _ _ c.if-start-text.false c.line_length.ensures in search rules
-
-pub slice_bounds-result-end : goal.slice_bounds-result-end
-slice_bounds-result-end c = let end = line_end _ _ _ c.if-start-text.false c.line_length.ensures in search rules
 
 pub returns : goal.returns
 returns c =
@@ -22,15 +15,12 @@ returns c =
     let start = c.args.start in
     let n = c.line_length.result in
     let rest = drop start text in
-    let end = line_end text start n c.if-start-text.false c.line_length.ensures in
+    let end = line_end text start n c.if-start-text.false c.line_length.ensures.is in
     let cut : start + n - start ≡ length (first_line rest) = omega (arith, end.0) in
     let some : 0 < length rest = omega (arith, length-drop start text, c.if-start-text.false) in
     let line : take (start + n - start) rest ≡ first_line rest = ap (λ k. take k rest) cut ∙ first_take rest in
     let is : start + n ≡ start + length (first_line rest) = omega (arith, end.0) in
-    let after : drop c.if-end-text.next text ≡ after_line rest = elim c.if-end-text.branch [
-      | then-end-text w ↦ ap (λ k. drop k text) w.next-is ∙ after_fed text start (start + n) is
-      | else-end-text w ↦ ap (λ k. drop k text) w.next-is ∙ after_last text start (start + n) is w.if-end-text.false
-    ] in
+    let after : drop c.min-next.result text ≡ after_line rest = ap (λ k. drop k text) c.min-next.ensures ∙ drop_min (start + n + 1) text ∙ after_fed text start (start + n) is in
     record {
       line = line;
       lines = lines_first rest some ∙ ap (λ l. l ∷ lines_of (after_line rest)) (sym line) ∙ ap (λ l. take (start + n - start) rest ∷ lines_of l) (sym after);

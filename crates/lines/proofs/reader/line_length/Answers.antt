@@ -1,16 +1,12 @@
-use Rattle.std.proofs.Common.{length, ap, arith}
-use Rattle.std.proofs.lemmas.List.{drop_all}
-use Rattle.lines.specs.Lines.{first_line}
-use Rattle.lines.proofs.Feeds.{first_ends, first_more}
+use Rattle.std.proofs.Common.{eqb, ap, ◌∙◌, length, rules, tests}
+use Rattle.std.specs.Option.{unwrap_or}
+use Rattle.std.proofs.lemmas.Iterator.{YieldsList-from_slice}
+use Rattle.std.proofs.lemmas.Iterator.Search.{position_from_yields_List}
+use Rattle.lines.proofs.Feeds.{found_length}
 use Rattle.lines.proofs.reader.line_length.Goals as goal
 
-pub returns-then-code-eq10 : goal.returns-then-code-eq10
-returns-then-code-eq10 c = omega (arith, c.loop-i.invariant, first_ends c.args.text.now c.loop-i.i c.loop-i-test.true c.if-code-eq10.true)
-
-pub loop-i-preserved : goal.loop-i-preserved
-loop-i-preserved c = omega (arith, c.loop-i.invariant, first_more c.args.text.now c.loop-i.i c.loop-i-test.true c.if-code-eq10.false)
-
-pub returns : goal.returns
-returns c =
-    let none = ap (λ l. length (first_line l)) (drop_all c.loop-i.i c.args.text.now c.loop-i-test.false) in
-    omega (arith, c.loop-i.invariant)
+pub returns-clause-is : goal.returns-clause-is
+returns-clause-is c =
+    let text = c.args.text.now in
+    let found = position_from_yields_List (λ code. eqb code 10) _ _ c.position.result c.position.ensures.ran (YieldsList-from_slice text c.iter.ensures.rest) (λ x b q k. search (rules, tests)) in
+    c.unwrap_or.ensures ∙ ap (λ o. unwrap_or o (length text)) found ∙ found_length text

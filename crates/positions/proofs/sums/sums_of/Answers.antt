@@ -18,7 +18,7 @@ sold_next : (c : After-shares) → c.loop-position.sold.units + c.shares.result.
 sold_next c = omega (arith, c.loop-position.invariant.1, c.shares.ensures.sold, sold_more c.args.all.now c.args.class c.loop-position.position-index)
 
 bounded : (c : After-shares) → (c.loop-position.bought.units + c.shares.result.0.units) + (c.loop-position.sold.units + c.shares.result.1.units) ≤ sum_limit
-bounded c = omega (arith, c.requires.long, bought_next c, sold_next c, sums_small c.args.all.now c.requires.small c.args.class (c.loop-position.position-index + 1))
+bounded c = omega (arith, bought_next c, sold_next c, sums_small c.args.all.now c.requires c.args.class (c.loop-position.position-index + 1))
 
 pub add_assign-requires : goal.add_assign-requires
 add_assign-requires c = omega (arith, bounded (goal.at.add_assign-requires c).After-shares)
@@ -33,10 +33,13 @@ loop-position-preserved c =
       ap (λ (z : Zloty). z.units) c.add_assign-in-loop-position.ensures.after ∙ sold_next d,
     )
 
-pub returns : goal.returns
-returns c =
+pub returns-clause-small : goal.returns-clause-small
+returns-clause-small c =
     let all = c.args.all.now in
-    let end : c.loop-position.position-index ≡ 256 = omega (arith, c.requires.long) in
-    let b = c.loop-position.invariant.0 ∙ ap (bought_in all c.args.class) end in
-    let s = c.loop-position.invariant.1 ∙ ap (sold_in all c.args.class) end in
-    record { bought = b; sold = s; small = omega (arith, b, s, sums_small all c.requires.small c.args.class 256) }
+    let end : c.loop-position.position-index ≡ 256 = omega arith in
+    omega (
+      arith,
+      c.loop-position.invariant.0 ∙ ap (bought_in all c.args.class) end,
+      c.loop-position.invariant.1 ∙ ap (sold_in all c.args.class) end,
+      sums_small all c.requires c.args.class 256,
+    )

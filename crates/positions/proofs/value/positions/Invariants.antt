@@ -1,13 +1,13 @@
 use Rattle.std.proofs.Common.{◌≡◌, ℕ, ◌<◌, length, get_or, None}
 use Rattle.terms.specs.Limits.{security_count}
 use Rattle.positions.specs.Questions.{first_below, security_fault}
-use Rattle.positions.specs.Values.{nothing, position_of}
+use Rattle.positions.specs.Values.{position_of}
 use Rattle.positions.proofs.value.positions.Given as goal
 
 abbrev pub invariant-loop-security : goal.invariant-loop-security
 invariant-loop-security g l =
     let rows = g.S.Sheet.rows l.sheet in
     let nets = g.P.Positions.nets l.book in
-    (length l.all ≡ security_count)
+    (length l.place-items ≡ security_count)
     × (first_below l.security (security_fault rows nets) ≡ None)
-    × ((s : ℕ) → s < l.security → get_or l.all s nothing ≡ position_of rows nets s)
+    × ((s : ℕ) → s < l.security → get_or l.place-items s None ≡ position_of rows nets s)

@@ -3,5 +3,5 @@ use Rattle.lists.specs.Lists.{items}
 use Rattle.books.specs.Totals.{total}
 use Rattle.books.proofs.journal.Journal.sum.Given as goal
 
-abbrev pub invariant-loop-at : goal.invariant-loop-at
-invariant-loop-at l = l.sum ≡ total (take l.at (items l.self.list)) l.security
+abbrev pub invariant-loop-booking : goal.invariant-loop-booking
+invariant-loop-booking l = l.sum ≡ total (take l.booking-index (items l.self.list)) l.security

@@ -1,6 +1,6 @@
 use Rattle.std.proofs.Common.{Err, ap, ◌∙◌}
 use Rattle.std.proofs.lemmas.Result.{err_from_is_err_and}
-use Rattle.entries.proofs.Taking.{fields_pass, frame_brings, line_refused, row_taken, booking_taken, booking_refused, other_refused}
+use Rattle.entries.proofs.Taking.{fields_pass, frame_brings, row_taken, booking_taken, booking_refused}
 use Rattle.entries.proofs.intake.Intake.take.Goals as goal
 
 pub add_class-requires : goal.add_class-requires
@@ -14,16 +14,6 @@ add_pair-requires c = fields_pass _ _ _ _ c.in_ok-frame.ensures c.in-Rows-Pair.i
 
 pub book-requires : goal.book-requires
 book-requires c = fields_pass _ _ _ _ c.in_ok-frame.ensures c.in_default-Booking.is-1
-
-pub returns-in_err-frame : goal.returns-in_err-frame
-returns-in_err-frame c =
-    let exit = err_from_is_err_and c.from_residual.result c.from_residual.ensures.1 in
-    line_refused c.args.self.now c.args.line.digits.now _ c.in_err-frame.ensures _ (exit.1 ∙ ap Err exit.2)
-
-pub returns-in-Rows-Class : goal.returns-in-Rows-Class
-returns-in-Rows-Class c =
-    let framed = c.in_ok-frame.ensures in
-    row_taken c.args.self.now c.args.line.digits.now framed.passes _ (frame_brings _ _ _ _ framed c.in-Rows-Class.is-1) c.in-Rows-Class.is-0 _ _ c.add_class.ensures
 
 pub returns-in-Rows-Security : goal.returns-in-Rows-Security
 returns-in-Rows-Security c =
@@ -45,18 +35,3 @@ pub returns-in_ok-book-in_default-Booking : goal.returns-in_ok-book-in_default-B
 returns-in_ok-book-in_default-Booking c =
     let framed = c.in_ok-frame.ensures in
     booking_taken c.args.self.now c.args.line.digits.now framed.passes _ _ (frame_brings _ _ _ _ framed c.in_default-Booking.is-1) _ c.in_ok-book-in_default-Booking.ensures
-
-pub returns-in_default-Deposit : goal.returns-in_default-Deposit
-returns-in_default-Deposit c =
-    let framed = c.in_ok-frame.ensures in
-    other_refused c.args.self.now c.args.line.digits.now framed.passes (frame_brings _ _ _ _ framed c.in_default-Deposit.is-1)
-
-pub returns-in_default-Total : goal.returns-in_default-Total
-returns-in_default-Total c =
-    let framed = c.in_ok-frame.ensures in
-    other_refused c.args.self.now c.args.line.digits.now framed.passes (frame_brings _ _ _ _ framed c.in_default-Total.is-1)
-
-pub returns-in_default-Fault : goal.returns-in_default-Fault
-returns-in_default-Fault c =
-    let framed = c.in_ok-frame.ensures in
-    other_refused c.args.self.now c.args.line.digits.now framed.passes (frame_brings _ _ _ _ framed c.in_default-Fault.is-1)

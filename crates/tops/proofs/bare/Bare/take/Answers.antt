@@ -1,6 +1,4 @@
-use Rattle.std.proofs.Common.{ℕ, ℤ, subst, w64}
-use Rattle.std.proofs.lemmas.Int.{to_z-of_z}
-use Rattle.books.specs.Books.{Books}
+use Rattle.std.proofs.Common.{ℕ, ℤ}
 use Rattle.tops.specs.declared.bare.Bare.{Bare}
 use Rattle.tops.proofs.Calls.{bare_booking}
 use Rattle.tops.proofs.bare.Bare.take.Given as given
@@ -19,11 +17,9 @@ module _ (g : given.Over) where
 pub returns : goal.returns
 returns g c =
     let layer = g.B.Positions.layer in
-    let s = c.args.security in
-    let q = c.args.quantity in
+    let b = c.args.booking in
     let r = c.book.result in
     let before = c.args.self.now in
     let after = c.book.new.self in
-    let books = subst (λ z. Books (nets g) (left g) (posts g) layer before s z r after) (to_z-of_z w64 q c.ranges.quantity) c.book.ensures in
-    let law = bare_booking (nets g) (left g) (posts g) layer before after s q r books in
-    record { answer = law.0; tally = law.1; refused = books.refused }
+    let law = bare_booking (nets g) (left g) (posts g) layer before after b r c.book.ensures in
+    record { answer = law.0; tally = law.1; refused = c.book.ensures.refused }

@@ -1,8 +1,5 @@
-use Rattle.std.proofs.Common.{is_ok, sym, ap, ◌∙◌, subst, w64, SFits, rules}
-use Rattle.std.proofs.lemmas.Int.{to_z-of_z}
-use Rattle.terms.specs.declared.layer.Layer.TheVariants as layers
-use Rattle.books.specs.Books.{Books}
-use Rattle.trials.specs.Trials.{same_below, trial_left, trial_nets}
+use Rattle.std.proofs.Common.{is_ok, sym, ap, ◌∙◌}
+use Rattle.trials.specs.Trials.{trial_left, trial_nets}
 use Rattle.tops.specs.declared.call.Call.TheVariants.{Own}
 use Rattle.tops.specs.Tallies.{decide, fed, trial_rules, trial_tally}
 use Rattle.tops.proofs.Calls.{trial_booking, trial_commit}
@@ -12,19 +9,16 @@ pub returns-in-Book : goal.returns-in-Book
 returns-in-Book g c =
     let p = g.B.Positions in
     let m = g.B.Book in
-    let s = c.in-Book.security in
-    let q = c.in-Book.quantity in
+    let b = c.in-Book.booking in
     let r = c.book.result in
     let before = c.args.self.now in
     let after = c.book.new.self in
-    let f : SFits w64 q = search rules in
-    let books = subst (λ z. Books trial_nets trial_left same_below layers.Trial before s z r after) (to_z-of_z w64 q f) c.book.ensures in
-    let law = trial_booking p.nets m.left m.posts p.layer before after s q r books in
+    let law = trial_booking p.nets m.left m.posts p.layer before after b r c.book.ensures in
     let tally = trial_tally (trial_nets before) (trial_left before) (p.nets before.below) (m.left before.below) in
     record {
       answer = law.0 ∙ ap (decide trial_rules tally) (sym c.in-Book.is);
       tally = law.1 ∙ ap (λ k. fed trial_rules tally k (is_ok r)) (sym c.in-Book.is);
-      refused = books.refused;
+      refused = c.book.ensures.refused;
     }
 
 pub returns-in-Commit : goal.returns-in-Commit

@@ -1,0 +1,35 @@
+-- What the lines of a text make of a desk. Assumes nothing.
+use Rattle.std.specs.Prelude.{◌≡◌, ℕ, ◌+◌, List, [], ◌∷◌, length, Some, None, Ok, Err, Option, Result, nat_le}
+use Rattle.terms.specs.declared.fault.Fault.{Fault}
+use Rattle.terms.specs.declared.layer.Layer.TheVariants.{WholeText}
+use Rattle.terms.specs.declared.refusal.Refusal.TheVariants.{TextTooLong}
+use Rattle.terms.specs.Limits.{text_limit}
+use Rattle.terms.specs.Questions.{ask, fault_of}
+use Rattle.lines.specs.Lines.{lines_of}
+use Rattle.entries.specs.declared.intake.Intake.{Intake}
+use Rattle.entries.specs.Desks.{Desk, line_fault_lem, opened, with_line}
+use Rattle.entries.specs.Intakes.{desk_of}
+use Rattle.entries.specs.declared.line_fault.LineFault.{LineFault}
+
+-- a fault with the number of its line
+abbrev pub in_line : ℕ → Fault → LineFault
+in_line number f = record { line = number; fault = f }
+
+-- a refused line goes before whatever comes later
+abbrev pub or_later : Option Fault → ℕ → Result Desk LineFault → Result Desk LineFault
+or_later (Some f) number later = Err (in_line number f)
+or_later None number later = later
+
+-- the desk after the lines, or the fault of the first that is refused; the first line has this number
+abbrev pub after_lines : ℕ → Desk → List (List ℕ) → Result Desk LineFault
+after_lines number d [] = Ok d
+after_lines number d (line ∷ lines) = or_later (line_fault_lem d line) number (after_lines (number + 1) (with_line d line) lines)
+
+-- what is left of a text's lines: an intake that holds them all, or the fault of the first that is refused
+abbrev pub ReadsTo : Result Desk LineFault → Result Intake LineFault → Type 0
+ReadsTo defined (Ok i) = defined ≡ Ok (desk_of i)
+ReadsTo defined (Err e) = defined ≡ Err e
+
+-- the same of a whole text: one that is too long is refused before its lines, with no line
+abbrev pub after_text : List ℕ → Result Desk LineFault
+after_text text = or_later (fault_of WholeText 0 (ask (nat_le (length text) text_limit) TextTooLong None)) 0 (after_lines 1 opened (lines_of text))

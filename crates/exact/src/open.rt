@@ -1,0 +1,45 @@
+// The classes before any pair is served.
+ghost use Rattle.std.specs.Prelude.{◌≡◌, ℕ, ◌+◌, ◌<◌, ◌≤◌, slice_index_or};
+ghost use Rattle.exact.specs.Classes.{none, nothing, opened};
+ghost use Rattle.exact.specs.Sizes.{owed_limit, worths_limit};
+ghost use Rattle.sheets.specs.Readings.{figures_of, rates_in};
+ghost use Rattle.terms.specs.Limits.{class_count};
+
+use crate::percentage::percentage;
+use crate::records::{Class, Sums};
+use sheets::rates::Rates;
+use sheets::reading::rates_of;
+use sheets::sheet::Sheet;
+use terms::limits::CLASSES;
+
+// A class by its rates and its sums: its parts, and its whole net value as leftover, with no credit.
+// Kept: a deposit opens records that tell each part and each sum, here only the risk is kept; a trait over both would need a law
+// for each of part, sum and bound a type, for bodies of a few lines.
+fn open(rates: Rates, sums: Sums) -> Class
+    requires { sums.bought + sums.sold ≤ worths_limit }
+    ensures opened { result ≡ opened (figures_of rates) sums }
+    ensures small { result.risk ≤ owed_limit }
+{
+    let drr = percentage(rates.y, sums.bought.abs_diff(sums.sold));
+    let drs = percentage(rates.x, sums.bought + sums.sold);
+    let dswk = percentage(rates.dep, sums.bought.min(sums.sold));
+    Class {
+        risk: drr + drs + dswk,
+        leftover: sums.bought as i128 - sums.sold as i128,
+        credits: 0,
+    }
+}
+
+// All classes before any pair is served.
+pub(crate) fn open_classes<S: Sheet>(sheet: &S, sums: &[Sums; CLASSES]) -> [Class; CLASSES]
+    requires { (c : ℕ) → c < class_count → (slice_index_or sums.now c nothing).bought + (slice_index_or sums.now c nothing).sold ≤ worths_limit }
+    ensures opened { (c : ℕ) → c < class_count → slice_index_or result c none ≡ opened (rates_in ((S.Sheet.rows sheet.now).classes c)) (slice_index_or sums.now c nothing) }
+    ensures small { (c : ℕ) → c < class_count → (slice_index_or result c none).risk ≤ owed_limit }
+{
+    let mut classes = [Class::NONE; CLASSES];
+    // Kept: tried: where the places are zipped with the sums, no word is left for what is written, so that neither clause closes.
+    for (class, place) in classes.iter_mut().enumerate() {
+        *place = open(rates_of(sheet, class as u16), sums[class]);
+    }
+    classes
+}

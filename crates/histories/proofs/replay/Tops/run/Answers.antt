@@ -1,0 +1,69 @@
+use Rattle.std.proofs.Common.{◌≡◌, ℕ, ◌+◌, ◌<◌, [], ◌∷◌, ◌++◌, length, take, drop, sym, ap, ◌∙◌, subst, arith, length-set, take_all, drop-set-lt}
+use Rattle.std.proofs.lemmas.List.{take_more, length_push}
+use Rattle.lists.specs.Lists.{items, memory}
+use Rattle.rules.specs.Rows.{Rows}
+use Rattle.histories.specs.Histories.{Tally, tally, Fits, History}
+use Rattle.histories.specs.Memories.{memory_of}
+use Rattle.histories.proofs.Steps.{history_next, written_next}
+use Rattle.histories.proofs.replay.Tops.run.Goals as goal
+
+pub note-requires : goal.note-requires
+note-requires g c =
+    let inv = c.loop-step.invariant in
+    omega (arith, inv.2, inv.3, c.requires.room, c.loop-step-test.true)
+
+pub loop-step-preserved : goal.loop-step-preserved
+loop-step-preserved g c =
+    let rules = g.T.Top.rules in
+    let means = g.U.Cover.means in
+    let below = g.U.Cover.under c.args.self.now.cover in
+    let places = length c.args.classes.now in
+    let room = length (memory c.args.matches.now) in
+    let start : Tally = tally (g.T.Top.tally c.args.self.now.top) (g.U.Cover.additions c.args.self.now.cover) in
+    let before : Tally = tally (g.T.Top.tally c.loop-step.self.top) (g.U.Cover.additions c.loop-step.self.cover) in
+    let after : Tally = tally (g.T.Top.tally c.take_step-entry.new.self.top) (g.U.Cover.additions c.take_step-entry.new.self.cover) in
+    let script = c.args.script.now in
+    let i = c.loop-step.step-index in
+    let step = c.step-item.result in
+    let entry = c.take_step-entry.result in
+    let log = c.loop-step.log in
+    let inv = c.loop-step.invariant in
+    let took = c.take_step-entry.ensures in
+    let l : i < length script = c.loop-step-test.true in
+    let added = c.note.ensures.noted in
+    let at : length (items log) < length script = omega (arith, inv.2, l) in
+    let same : length c.loop-step.classes ≡ places = omega (arith, c.loop-step.auto.classes) in
+    let pushed : take (i + 1) script ≡ take i script ++ (step ∷ []) = take_more script i step l ∙ ap (λ x. take i script ++ (x ∷ [])) (sym c.step-item.is) in
+    let fits : Fits rules means below places room before step entry =
+    subst (λ (rows : Rows). Fits rules means rows places room before step entry) inv.6
+    (subst (λ (n : ℕ). Fits rules means (g.U.Cover.under c.loop-step.self.cover) n room before step entry) same
+    (subst (λ (n : ℕ). Fits rules means (g.U.Cover.under c.loop-step.self.cover) (length c.loop-step.classes) n before step entry) inv.4 took.fits)) in (
+      c.note.ensures.lender ∙ inv.0,
+      took.lender ∙ inv.1,
+      ap length added.items ∙ length_push (items log) entry ∙ ap (λ n. n + 1) inv.2,
+      ap length added.memory ∙ length-set (memory log) (length (items log)) entry ∙ inv.3,
+      took.room ∙ inv.4,
+      ap (drop (length script)) added.memory ∙ drop-set-lt (length script) (memory log) (length (items log)) entry at ∙ inv.5,
+      took.under ∙ inv.6,
+      written_next (items log) (items c.note.new.log) entry (memory_of c.args.classes.now c.args.matches.now)
+          (memory_of c.loop-step.classes c.loop-step.matches) (memory_of c.take_step-entry.new.classes c.take_step-entry.new.matches)
+          added.items inv.7 took.written,
+      history_next rules means below places room start before after
+          (take i script) (take (i + 1) script) (items log) (items c.note.new.log) step entry
+          pushed added.items inv.8 fits took.noted,
+    )
+
+pub returns : goal.returns
+returns g c =
+    let start : Tally = tally (g.T.Top.tally c.args.self.now.top) (g.U.Cover.additions c.args.self.now.cover) in
+    let end : Tally = tally (g.T.Top.tally c.loop-step.self.top) (g.U.Cover.additions c.loop-step.self.cover) in
+    let inv = c.loop-step.invariant in
+    record {
+      log = inv.0;
+      matches = inv.1;
+      history = subst (λ ss. History g.T.Top.rules g.U.Cover.means (g.U.Cover.under c.args.self.now.cover) (length c.args.classes.now) (length (memory c.args.matches.now)) start ss (items c.loop-step.log) end)
+          (take_all _ _ c.loop-step-test.false) inv.8;
+      under = inv.6;
+      written = inv.7;
+      past = inv.5;
+    }

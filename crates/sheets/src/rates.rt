@@ -1,0 +1,15 @@
+// The rates of a class as they are read of a sheet.
+ghost use Rattle.std.specs.Prelude.{◌≤◌};
+ghost use Rattle.terms.specs.Limits.{whole};
+
+// Each in 10^-5 of the whole, which none is above.
+// Kept: a ClassRow has the same three figures, but may be unlawful before it is judged; Rates never are.
+#[derive(Clone, Copy)]
+pub struct Rates {
+    pub y: u32,
+    pub x: u32,
+    pub dep: u32,
+    pub ghost y_small: { y ≤ whole },
+    pub ghost x_small: { x ≤ whole },
+    pub ghost dep_small: { dep ≤ whole },
+}
