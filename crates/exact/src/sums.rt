@@ -30,7 +30,7 @@ pub(crate) fn class_sums<P: Positions, S: Sheet>(book: &P, sheet: &S) -> [Sums; 
     ensures { Summed (S.Sheet.rows sheet.now) (P.Positions.nets book.now) security_count result }
 {
     let mut sums = [Sums::NONE; CLASSES];
-    // Kept: the loop goes over security numbers, by which book and sheet are asked, and indexes nothing by them.
+    // Kept: an iterator chain is no plainer: book and sheet are asked by the number itself.
     for security in 0..SECURITIES as u16 {
         if let Some(priced) = priced_security(sheet, security) {
             let position = worth(net_of(book, security), priced);

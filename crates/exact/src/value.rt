@@ -26,6 +26,7 @@ pub(crate) fn worth(net: i64, security: PricedSecurity) -> Sums
     let PricedSecurity { row, kind } = security;
     let duration = counted_duration(kind, row.duration);
     let value = value(net.unsigned_abs(), row, duration);
+    // Kept: one comparison; to make `side_of` of positions public for it is no plainer.
     if net < 0 {
         Sums {
             bought: 0,

@@ -13,6 +13,8 @@ use sheets::sheet::Sheet;
 use terms::limits::CLASSES;
 
 // Takes a part of what is left as matched, for a credit.
+// Kept: add_credit and serve: a deposit tells each match and fills records that are told, here only what is owed is kept; a trait
+// over both would need a law for each of leftover, credit, sum and bound a type, for bodies of a few lines.
 fn add_credit(class: &mut Class, matched: u128, credit: u128)
     requires roomy { Roomy class.old }
     requires small { credit ≤ part_limit }
@@ -23,8 +25,6 @@ fn add_credit(class: &mut Class, matched: u128, credit: u128)
 }
 
 // Serves one pair.
-// Kept: a deposit tells each match and fills records that are told, here only what is owed is kept; a trait over both would need
-// a law for each of leftover, credit, sum and bound a type, for bodies of a few lines.
 fn serve(classes: &mut [Class; CLASSES], pair: PairRow)
     requires { Servable pair classes.old }
     ensures { classes.new ≡ served pair classes.old }

@@ -31,6 +31,7 @@ pub(crate) fn report(rt: &HostRuntime, text: &[u8]) -> io::Result<()> {
     match take_text(text) {
         Ok(Intake { draft, book, .. }) => settle(rt, &book, &draft.put_in_force()),
         Err(refused) => {
+            // Kept: a rule of the project: line 0 where there is none, as LineFault says.
             let what = match refused.line {
                 0 => "The text is refused.",
                 _ => "A line is refused, and nothing is worked out.",

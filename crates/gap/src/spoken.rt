@@ -6,7 +6,7 @@ use std::io;
 use wording::units::{Amount, Leftover, Money};
 
 // Says PK and PS, what is left over, and the parts of the deposit of a class.
-// Kept: replay says the same figures in words of its own, so that only their names would be shared, which is no plainer.
+// Kept: replay and gap end the line of the parts in other ways; a type of four amounts, filled in both, is no plainer.
 fn say_class(rt: &HostRuntime, number: usize, class: &ClassMargin) -> io::Result<()> {
     let bought = class.bought.units();
     let sold = class.sold.units();
@@ -33,7 +33,7 @@ fn say_held(rt: &HostRuntime, number: usize, class: &ClassMargin) -> io::Result<
 }
 
 // Says what a pair matches.
-// Kept: as say_class.
+// Kept: gap and replay differ in one letter; wording knows no Match, and a crate for this line is no plainer.
 fn say_match(rt: &HostRuntime, pair: &Match) -> io::Result<()> {
     let first = pair.first;
     let second = pair.second;
@@ -41,6 +41,7 @@ fn say_match(rt: &HostRuntime, pair: &Match) -> io::Result<()> {
     println!(rt; "Classes {first} and {second}: {matched} matched")
 }
 
+// Kept: C, N and R stand one by one (a rule of the project); a type of them would be made to be printed.
 fn say_gap(rt: &HostRuntime, measure: Measure) -> io::Result<()> {
     let deposit = Money(measure.summary.dspan.grosz());
     println!(rt; "The deposit told:     {deposit} zloty")?;

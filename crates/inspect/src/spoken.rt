@@ -80,6 +80,7 @@ impl fmt::Display for Words<DepositRecord> {
 
 impl fmt::Display for Words<TotalRecord> {
     fn fmt<W: fmt::Write>(&self, f: &mut fmt::Formatter<W>) -> fmt::Result {
+        // Kept: C, N and R stand one by one (a rule of the project); a type of them would be made to be printed.
         let classes = self.0.classes;
         let securities = self.0.securities;
         let pairs = self.0.pairs;

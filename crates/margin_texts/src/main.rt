@@ -15,9 +15,7 @@ fn text_of(heap: Global, case: &Case) -> Result<Vec<u8>, AllocError> {
     let mut text = Vec::new(heap);
     text.extend_from_slice(case.head.as_bytes())?;
     if let Some((part, times)) = case.repeated {
-        for _ in 0..times {
-            text.extend_from_slice(part.as_bytes())?;
-        }
+        text.extend_from_slice(part.repeat(heap, times)?.as_bytes())?;
     }
     Ok(text)
 }

@@ -13,6 +13,7 @@ use crate::session::Session;
 // Reads the script line by line.
 fn read_script(rt: &HostRuntime) -> anyhow::Result<()> {
     let mut session = Session::new(rt.alloc());
+    // Kept: nothing bounds how many lines there are, so that `(1..)` could pass the last number.
     for (before, line) in rt.lines(rt.alloc()).enumerate() {
         session.read(rt, before.saturating_add(1), &line?)?;
     }

@@ -92,7 +92,7 @@ fn keyword(words: &mut SplitWhitespace<'_>, word: &str) -> Option<()> {
 // book SECURITY bought|sold QUANTITY
 fn booking(words: &mut SplitWhitespace<'_>) -> Option<Booking> {
     let security = read(words)?;
-    // Kept: `FromStr` would have to stand in terms, which knows no words of a script: a type's impl stands in its own crate.
+    // Kept: a FromStr of Side, in terms, would be public, with an error, a contract and an edit of its own, for this one use.
     let side = match words.next()? {
         "bought" => Side::Bought,
         "sold" => Side::Sold,
