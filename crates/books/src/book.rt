@@ -33,7 +33,7 @@ pub trait Book: Positions {
     ghost left: { Self → ℕ };
 
     // What an accepted booking does to the whole value, memory handed in included.
-    // Kept: laws speak of a security and a quantity, not of a `Booking`: what they are made of, as `booked`, takes each alone.
+    // Kept: no plainer: each law would take a `Booking` apart again for `booked`, which takes a security and a quantity.
     ghost posts: { Self → ℕ → ℤ → Self → Type 0 };
 
     // How many more bookings the book takes.

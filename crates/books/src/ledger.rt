@@ -13,6 +13,7 @@ mod reading;
 pub struct Ledger {
     nets: [i64; SECURITIES],
     left: u32,
+    // Kept: tried; without it the law that no net lies past the last security does not close, since it speaks of any ledger.
     ghost long: { length nets ≡ security_count },
     ghost limited: { (s : ℕ) → Within net_limit (slice_index_or nets s (pos 0)) },
 }

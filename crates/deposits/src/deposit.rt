@@ -25,6 +25,8 @@ const TOO_FEW_PLACES: Fault = Fault {
 };
 
 // The deposit where there is room for the answer: what is left to ask is put to each held security.
+// Kept: tried; without the clause wide `deposit` is not proved: of an array that it lent on, a caller does not know the length
+// by the type.
 fn settle<P: Positions, S: Sheet>(
     book: &P,
     sheet: &S,
@@ -62,8 +64,6 @@ pub fn deposit<P: Positions, S: Sheet>(
     if matches.room() < PAIRS {
         return Err(TOO_FEW_PLACES);
     }
-    let Some(places) = classes.first_chunk_mut::<CLASSES>() else {
-        return Err(TOO_FEW_PLACES);
-    };
+    let places = classes.first_chunk_mut::<CLASSES>().ok_or(TOO_FEW_PLACES)?;
     settle(book, sheet, places, matches)
 }

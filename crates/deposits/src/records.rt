@@ -20,6 +20,7 @@ pub struct ClassMargin {
 
 impl ClassMargin {
     // Of a class that is not held.
+    // Kept: no plainer: it is a constant, of which arrays and other constants are made; a Default would stand beside it.
     pub const NONE: ClassMargin = ClassMargin {
         bought: Zloty::ZERO,
         sold: Zloty::ZERO,
@@ -43,6 +44,7 @@ pub struct Match {
 
 impl Match {
     // Nothing is matched.
+    // Kept: no plainer: it is a constant, of which arrays and other constants are made; a Default would stand beside it.
     pub const NONE: Match = Match {
         first: 0,
         second: 0,

@@ -49,16 +49,6 @@ fn serve(classes: &mut [ClassMargin; CLASSES], pair: PairRow) -> Zloty
     amount
 }
 
-// One match more, in a list that has a place for it.
-// Kept: a rule of the project: public calls ask nothing of their callers, so that lists cannot offer this for any kind of record.
-fn tell(matches: &mut List<'_, Match>, told: Match)
-    requires { length (items matches.old) < length (memory matches.old) }
-    ensures lender { lender matches.new ≡ lender matches.old }
-    ensures told { Appended told matches.old matches.new }
-{
-    matches.append(told).unwrap();
-}
-
 // Serves one pair, and lists how much it matches.
 fn serve_and_tell(
     classes: &mut [ClassMargin; CLASSES],
@@ -72,14 +62,13 @@ fn serve_and_tell(
     ensures told { Appended (match_record pair (part pair classes.old)) matches.old matches.new }
 {
     let matched = serve(classes, pair);
-    tell(
-        matches,
-        Match {
+    matches
+        .append(Match {
             first: pair.first,
             second: pair.second,
             matched,
-        },
-    );
+        })
+        .unwrap();
 }
 
 // Serves the pairs of the sheet in their order, each once; the list then tells how much they match, and nothing else.

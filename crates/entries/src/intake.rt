@@ -13,7 +13,8 @@ use terms::layer::Layer;
 use terms::refusal::Refusal;
 
 // The rows of the sheet come first, then the bookings.
-// Kept: a rule of the project: the intake matches on its stage and the kind of line at once, so a stage is no type of its own.
+// Kept: a rule of the project: the intake matches on its stage and the kind of line at once, so that a stage is a value, and
+// not a type of intake with a `take` of its own.
 #[derive(Clone, Copy)]
 pub enum Stage {
     Rows,
@@ -68,12 +69,7 @@ impl Intake {
             (Stage::Rows, FrameLine::Class(part)) => add_class(&mut self.draft, part.digits),
             (Stage::Rows, FrameLine::Security(part)) => add_security(&mut self.draft, part.digits),
             (Stage::Rows, FrameLine::Pair(part)) => add_pair(&mut self.draft, part.digits),
-            (Stage::Bookings, FrameLine::Class(_)) => Err(OUT_OF_ORDER),
-            (Stage::Bookings, FrameLine::Security(_)) => Err(OUT_OF_ORDER),
-            (Stage::Bookings, FrameLine::Pair(_)) => Err(OUT_OF_ORDER),
-            (_, FrameLine::Deposit(_)) => Err(OUT_OF_ORDER),
-            (_, FrameLine::Total(_)) => Err(OUT_OF_ORDER),
-            (_, FrameLine::Fault(_)) => Err(OUT_OF_ORDER),
+            _ => Err(OUT_OF_ORDER),
         }
     }
 }

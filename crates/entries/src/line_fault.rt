@@ -1,13 +1,37 @@
 // A fault of a text.
+ghost use Rattle.std.specs.Prelude.{◌≡◌, [], ◌∷◌};
+ghost use Rattle.terms.specs.Numbers.{layer_number, refusal_number};
+
+use frames::record::FaultRecord;
 use terms::fault::Fault;
 use thiserror::Error;
 
 // The fault, and the number of its line, from 1; 0 where no line is at fault.
 // Kept: a rule of the project: a fault tells line 0 where there is none, as its frame does; frame and programs print that 0,
-// so that an Option would be put back into 0 at each use.
+// so that an Option would be put back into 0 at each use but one (gap).
 #[derive(Clone, Copy, PartialEq, Eq, Debug, Error)]
 #[error("Refusal {}: {} (layer {}, {}; line {line}, place {})", u8::from(.fault.refusal), .fault.refusal, u8::from(.fault.layer), .fault.layer, .fault.place)]
 pub struct LineFault {
     pub line: u32,
     pub fault: Fault,
+}
+
+impl From<Fault> for LineFault {
+    ghost from_gives = { λ fault refused. refused ≡ record { line = 0; fault = fault } };
+
+    // A fault that is no line's.
+    fn from(fault: Fault) -> LineFault {
+        LineFault { line: 0, fault }
+    }
+}
+
+impl From<LineFault> for FaultRecord {
+    ghost from_gives = { λ refused item. item.number ∷ item.layer ∷ item.line ∷ item.place ∷ [] ≡ refusal_number refused.fault.refusal ∷ layer_number refused.fault.layer ∷ refused.line ∷ refused.fault.place ∷ [] };
+
+    // The record of the fault, with its line.
+    fn from(refused: LineFault) -> FaultRecord {
+        let mut item = FaultRecord::from(refused.fault);
+        item.line = refused.line;
+        item
+    }
 }

@@ -28,6 +28,6 @@ fn take_lines(text: &[u8]) -> Result<Intake, LineFault>
 pub fn take_text(text: &[u8]) -> Result<Intake, LineFault>
     ensures { ReadsTo (after_text text.now) result }
 {
-    check_length(text).map_err(|fault| LineFault { line: 0, fault })?;
+    check_length(text)?;
     take_lines(text)
 }

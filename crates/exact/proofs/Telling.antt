@@ -1,10 +1,10 @@
 -- From what the steps leave to the exact margin that is defined. Assumes nothing.
-use Rattle.std.proofs.Common.{◌≡◌, ℕ, zero, suc, ◌+◌, ◌<◌, ◌≤◌, List, get_or, ℤ, pos, ◌+ℤ◌, ◌-ℤ◌, nat_abs, None, sym, refl, ap, ◌∙◌, subst, ap₂, arith}
+use Rattle.std.proofs.Common.{◌≡◌, ℕ, zero, suc, ◌+◌, ◌<◌, ◌≤◌, min, List, get_or, ℤ, pos, ◌+ℤ◌, ◌-ℤ◌, nat_abs, None, sym, refl, ap, ◌∙◌, subst, ap₂, mul-le-mul, arith}
 use Rattle.terms.specs.Limits.{security_count, class_count}
 use Rattle.rules.specs.Sums.{sum_belowℤ}
 use Rattle.rules.specs.Rows.{Rows, Lawful, Every}
 use Rattle.rules.specs.Margin.{exact, bought, sold, value_in, net_value, KSPK, DOLR, DSPAN}
-use Rattle.rules.proofs.Classes.{abs_minus}
+use Rattle.rules.proofs.Classes.{abs_minus, figure_small}
 use Rattle.rules.proofs.Walk.{Below, Agree, credits_agree, every_map}
 use Rattle.sheets.specs.Readings.{rates_in}
 use Rattle.positions.specs.Questions.{portfolio_fault}
@@ -29,6 +29,19 @@ all_summed rows nets c = refl
 
 below : (rows : Rows) → Lawful rows → Every (Below class_count) rows.pairs
 below rows h = every_map (λ p s. record { one = s.one; other = s.other; apart = s.apart }) rows.pairs (sounds rows h)
+
+-- the parts of a class whose sums are small
+pub risk_small : (rows : Rows) → Lawful rows → (c : ℕ) (s : Sums) → s.bought + s.sold ≤ worths_limit → risk_by (rates_in (rows.classes c)) s ≤ owed_limit
+risk_small rows h c s l =
+    let row = rows.classes c in
+    let apart : nat_abs (pos s.bought -ℤ pos s.sold) ≤ worths_limit = omega (arith, l, abs_minus s.bought s.sold) in
+    let lower : min s.bought s.sold ≤ worths_limit = omega (arith, l) in
+    omega (
+      arith,
+      mul-le-mul (figure_small (λ r. r.y) c (λ r l. l.y_small) row (h.of_classes c)) apart,
+      mul-le-mul (figure_small (λ r. r.x) c (λ r l. l.x_small) row (h.of_classes c)) l,
+      mul-le-mul (figure_small (λ r. r.dep) c (λ r l. l.dep_small) row (h.of_classes c)) lower,
+    )
 
 module _ (rows : Rows) (lawful : Lawful rows) (nets : ℕ → ℤ) (pass : portfolio_fault rows nets ≡ None) (xs : List Sums) (h : Summed rows nets security_count xs) where
   sums_are : (c : ℕ) → c < class_count → get_or xs c nothing ≡ record { bought = bought exact rows nets c; sold = sold exact rows nets c }

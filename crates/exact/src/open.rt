@@ -10,6 +10,7 @@ use crate::records::{Class, Sums};
 use sheets::rates::Rates;
 use sheets::reading::rates_of;
 use sheets::sheet::Sheet;
+use std::array;
 use terms::limits::CLASSES;
 
 // A class by its rates and its sums: its parts, and its whole net value as leftover, with no credit.
@@ -30,16 +31,19 @@ fn open(rates: Rates, sums: Sums) -> Class
     }
 }
 
+// A class before any pair is served.
+fn open_class<S: Sheet>(sheet: &S, class: u16, sums: Sums) -> Class
+    requires { sums.bought + sums.sold ≤ worths_limit }
+    ensures { result ≡ opened (rates_in ((S.Sheet.rows sheet.now).classes class)) sums }
+{
+    open(rates_of(sheet, class), sums)
+}
+
 // All classes before any pair is served.
 pub(crate) fn open_classes<S: Sheet>(sheet: &S, sums: &[Sums; CLASSES]) -> [Class; CLASSES]
     requires { (c : ℕ) → c < class_count → (slice_index_or sums.now c nothing).bought + (slice_index_or sums.now c nothing).sold ≤ worths_limit }
     ensures opened { (c : ℕ) → c < class_count → slice_index_or result c none ≡ opened (rates_in ((S.Sheet.rows sheet.now).classes c)) (slice_index_or sums.now c nothing) }
     ensures small { (c : ℕ) → c < class_count → (slice_index_or result c none).risk ≤ owed_limit }
 {
-    let mut classes = [Class::NONE; CLASSES];
-    // Kept: tried: where the places are zipped with the sums, no word is left for what is written, so that neither clause closes.
-    for (class, place) in classes.iter_mut().enumerate() {
-        *place = open(rates_of(sheet, class as u16), sums[class]);
-    }
-    classes
+    array::from_fn(|class| open_class(sheet, class as u16, sums[class]))
 }

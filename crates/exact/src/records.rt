@@ -1,15 +1,10 @@
 // What the exact margin is worked out by, of each class.
 
 // What is bought and what is sold, in 10^-14 zloty.
-#[derive(Clone, Copy)]
+#[derive(Clone, Copy, Default)]
 pub(crate) struct Sums {
     pub(crate) bought: u128,
     pub(crate) sold: u128,
-}
-
-impl Sums {
-    // Nothing is held.
-    pub(crate) const NONE: Sums = Sums { bought: 0, sold: 0 };
 }
 
 // Its three parts together and the credits for what is matched, in 10^-19 zloty, and between them what no pair has matched,
@@ -19,13 +14,4 @@ pub(crate) struct Class {
     pub(crate) risk: u128,
     pub(crate) leftover: i128,
     pub(crate) credits: u128,
-}
-
-impl Class {
-    // Nothing is owed, left or credited.
-    pub(crate) const NONE: Class = Class {
-        risk: 0,
-        leftover: 0,
-        credits: 0,
-    };
 }

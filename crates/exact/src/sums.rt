@@ -29,7 +29,7 @@ pub(crate) fn class_sums<P: Positions, S: Sheet>(book: &P, sheet: &S) -> [Sums; 
     requires { portfolio_fault (S.Sheet.rows sheet.now) (P.Positions.nets book.now) ≡ None }
     ensures { Summed (S.Sheet.rows sheet.now) (P.Positions.nets book.now) security_count result }
 {
-    let mut sums = [Sums::NONE; CLASSES];
+    let mut sums = [Sums::default(); CLASSES];
     // Kept: an iterator chain is no plainer: book and sheet are asked by the number itself.
     for security in 0..SECURITIES as u16 {
         if let Some(priced) = priced_security(sheet, security) {

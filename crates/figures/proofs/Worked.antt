@@ -5,10 +5,13 @@ use Rattle.rules.specs.Held.{held_in}
 use Rattle.rules.specs.Margin.{value_in, step}
 use Rattle.rules.specs.Sums.{sum_below, sum_belowℤ}
 use Rattle.sheets.specs.Rates2020.{rates_2020}
+use Rattle.trials.specs.Trials.{count}
+use Rattle.positions.specs.Questions.{first_below}
+use Rattle.intake.specs.Answering.{held_lines}
 use Rattle.figures.specs.Figures.{FiguresHold, two_classes, three_classes}
 
 pub figures_hold : FiguresHold
-unfolding sum_below sum_belowℤ value_in held_in step
+unfolding sum_below sum_belowℤ value_in held_in step count first_below held_lines
 figures_hold = (
   table_lawful rates_2020 refl,
   (
@@ -47,7 +50,7 @@ figures_hold = (
                                     refl,
                                     (
                                       refl,
-                                      tt,
+                                      ((refl, refl, refl), (refl, tt)),
                                     ),
                                   ),
                                 ),

@@ -1,5 +1,6 @@
 -- Worked figures of the margin, in one table. Assumes nothing.
-use Rattle.std.specs.Prelude.{◌≡◌, ℕ, zero, suc, List, [], ◌∷◌, ℤ, pos, negsuc, Some, None, Option}
+use Rattle.std.specs.Prelude.{◌≡◌, ℕ, zero, suc, true, cond, List, [], ◌∷◌, map, ℤ, pos, negsuc, neg_ℤ, Some, None, Ok, codes, Option, ◌==◌}
+use Prim.Native.String.{String}
 use Rattle.terms.specs.declared.choice.ClassKind.{ClassKind}
 use Rattle.terms.specs.declared.choice.ClassKind.TheVariants.{Liquidity, Duration}
 use Rattle.rules.specs.declared.rows.ClassRow.{ClassRow}
@@ -10,6 +11,14 @@ use Rattle.rules.specs.Margin.{rounded, amount, position_value, DRR, DRS, DSWK, 
 use Rattle.rules.specs.Rows.{Every, Lawful}
 use Rattle.rules.specs.Tables.{Table, rows_of}
 use Rattle.sheets.specs.Rates2020.{rates_2020}
+use Rattle.terms.specs.Limits.{booking_limit}
+use Rattle.books.specs.declared.booking.Booking.{Booking}
+use Rattle.books.specs.Books.{no_nets}
+use Rattle.tops.specs.declared.call.Call.TheVariants.{Book, Own}
+use Rattle.tops.specs.declared.call.TrialCall.TheVariants.{Commit}
+use Rattle.tops.specs.Tallies.{Tally, trial_rules, opened, decide, fed}
+use Rattle.lines.specs.Lines.{fed as lines_fed}
+use Rattle.intake.specs.Answering.{answer_bytes}
 
 -- ---- sheets and portfolios
 
@@ -58,6 +67,20 @@ over sheet nets = record { sheet = sheet; nets = nets }
 abbrev pub priced : ℕ → ℕ → ℕ → SecurityRow
 priced price rate duration = record { class = 0; price = price; rate = rate; duration = duration }
 
+-- ---- a trial layer
+
+-- a trial layer just opened over a book in which this net of security 0 is kept
+abbrev pub opened_over : ℤ → Tally
+opened_over net = opened trial_rules (λ s. cond (s == 0) net (pos 0)) booking_limit
+
+-- so much of security 0
+abbrev pub of_first : ℤ → Booking
+of_first quantity = record { security = 0; quantity = quantity }
+
+-- the same layer once this quantity of security 0 is on trial
+abbrev pub trialled : ℤ → ℤ → Tally
+trialled net quantity = fed trial_rules (opened_over net) (Book (of_first quantity)) true
+
 -- ---- the table
 
 -- what a figure says
@@ -74,6 +97,14 @@ pub data Figure : Type 0 where
   values : ℕ → SecurityRow → ClassKind → ℕ → ℕ → Figure
   -- such a position is refused, since its A is above the limit
   too_large : ℕ → SecurityRow → ClassKind → Figure
+  -- a net below, a quantity booked on trial, and the net below after the commit; neither call is refused
+  committed : ℤ → ℤ → ℤ → Figure
+  -- the answer to a text of these lines is these lines
+  answered : List String → List String → Figure
+
+-- lines as bytes, each with its feed
+abbrev pub bytes_of : List String → List ℕ
+bytes_of lines = lines_fed (map codes lines)
 
 abbrev pub Holds : Figure → Type 0
 Holds (lawful sheet) = Lawful (rows_of sheet)
@@ -91,6 +122,11 @@ Holds (owes p dspan classes securities pairs) =
 Holds (amount_is q price rate a) = amount q price rate ≡ a
 Holds (values q row kind a v) = position_value q row kind ≡ Some (record { units = a }, record { units = v })
 Holds (too_large q row kind) = position_value q row kind ≡ None
+Holds (committed net quantity after) =
+    (decide trial_rules (opened_over net) (Book (of_first quantity)) ≡ Ok tt)
+    × (decide trial_rules (trialled net quantity) (Own Commit) ≡ Ok tt)
+    × ((fed trial_rules (trialled net quantity) (Own Commit) true).kept 0 ≡ after)
+Holds (answered lines told) = answer_bytes (bytes_of lines) ≡ bytes_of told
 
 -- the two bonds of the fixed table, one bought and the other sold
 abbrev pub bond_spread : Portfolio
@@ -105,6 +141,22 @@ share_spread = over two_classes (pos 100 ∷ negsuc 99 ∷ [])
 
 abbrev pub small_spread : Portfolio
 small_spread = over three_classes (pos 1 ∷ negsuc 0 ∷ negsuc 0 ∷ [])
+
+-- the text of the two bonds, one bought and the other sold
+abbrev pub bond_lines : List String
+bond_lines =
+    "43020200014A000050000118"
+    ∷ "53000200ABE0000027100028380A"
+    ∷ "53010200A07EB8002710002D6F3F"
+    ∷ "420001000003E8"
+    ∷ "420102000003E8"
+    ∷ []
+
+abbrev pub bond_answer : List String
+bond_answer =
+    "4402000000000000D20D000000000007728400000000000CAF4A0000000000000000000000000014F3DB"
+    ∷ "5401000200000000000014F3DB"
+    ∷ []
 
 abbrev pub figures : List Figure
 figures =
@@ -127,6 +179,8 @@ figures =
     ∷ amount_is 1 1 4999 0
     ∷ values 100000000 (priced 1000000 10000 1000000) Liquidity 100000000000000 100000000000000
     ∷ too_large 100000000 (priced 1000001 10000 1000000) Liquidity
+    ∷ committed (neg_ℤ (pos 100000000)) (pos 200000000) (pos 100000000)
+    ∷ answered bond_lines bond_answer
     ∷ []
 
 -- every figure of the table is true

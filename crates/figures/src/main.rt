@@ -2,6 +2,7 @@
 #![tactic(auto)]
 
 mod example;
+mod portfolio;
 mod strays;
 mod table;
 mod told;
@@ -9,9 +10,8 @@ mod told;
 use crate::example::both_portfolios;
 use crate::strays::strays;
 use crate::table::proved_figures;
-use std::io;
 
-fn main(rt: HostRuntime) -> io::Result<()> {
+fn main(rt: HostRuntime) -> anyhow::Result<()> {
     println!(rt;
         "figures proved under the definitions: {}",
         proved_figures()

@@ -1,25 +1,74 @@
-// Where grosz go astray: figures that another order of the steps would tell otherwise.
-use crate::example::{owed, position};
+// Where grosz go astray: figures that another order of the steps, or another rounding, would tell otherwise.
+use crate::example::valued;
+use crate::portfolio::deposit_of;
 use crate::told::say;
+use anyhow::Context;
+use books::booking::Booking;
 use rules::position::PricedSecurity;
-use rules::rows::SecurityRow;
-use std::io;
+use rules::rows::{ClassRow, PairRow, SecurityRow};
+use sheets::draft::Draft;
+use sheets::duration_rates::DurationRates2020;
+use sheets::rate_sheet::RateSheet;
 use terms::choice::ClassKind;
-use terms::money::Zloty;
+use terms::fault::Fault;
+use terms::limits::DURATION_ONE;
 use wording::units::{Amount, Money};
 
-// A share at 1.0000 of a currency that costs 4.2500 zloty.
-const FOREIGN_SHARE: SecurityRow = SecurityRow {
-    class: 0,
-    price: 10_000,
-    rate: 42_500,
-    duration: 1_000_000,
-};
+// So many of the first bond of the example.
+fn first_bond(quantity: i64) -> Booking {
+    Booking {
+        security: 0,
+        quantity,
+    }
+}
 
-pub(crate) fn strays(rt: &HostRuntime) -> io::Result<()> {
-    let (_, whole) = position(0, 1_000);
-    let (_, unit) = position(0, 1);
-    println!(rt; "where grosz go astray")?;
+// A share of a class, at a price and a currency rate.
+fn share(class: u16, price: u32, rate: u32) -> SecurityRow {
+    SecurityRow {
+        class,
+        price,
+        rate,
+        duration: DURATION_ONE,
+    }
+}
+
+// Three classes of shares with y at the half, one share in each; the first is paired with each of the others.
+fn three_classes() -> Result<RateSheet, Fault> {
+    let half = ClassRow {
+        kind: ClassKind::Liquidity,
+        y: 50_000,
+        x: 0,
+        dep: 0,
+    };
+    let mut draft = Draft::new();
+    for (class, price) in [(0, 200), (1, 100), (2, 100)] {
+        draft.add_class(class, half)?;
+        draft.add_security(class, share(class, price, 10_000))?;
+    }
+    for second in [1, 2] {
+        draft.add_pair(PairRow {
+            first: 0,
+            second,
+            crt: 50_000,
+        })?;
+    }
+    Ok(draft.put_in_force())
+}
+
+// What class 0 owes with one share of it bought, and one of each other sold.
+fn credited() -> Result<Money, Fault> {
+    let bookings = [(0, 1), (1, -1), (2, -1)].map(|(security, quantity)| Booking {
+        security,
+        quantity,
+    });
+    let told = deposit_of(&bookings, &three_classes()?)?;
+    Ok(Money(told.classes[0].dolr.grosz()))
+}
+
+// V of 1000 of the first bond, rounded once, and as it would be if that of one bond were rounded first.
+fn bond_values(rt: &HostRuntime) -> anyhow::Result<()> {
+    let (_, whole) = valued(first_bond(1_000))?;
+    let (_, unit) = valued(first_bond(1))?;
     say(
         rt,
         "  V of 1000 of bond 0, rounded once",
@@ -32,24 +81,35 @@ pub(crate) fn strays(rt: &HostRuntime) -> io::Result<()> {
         Amount(unit.units().saturating_mul(1_000)),
         Amount(29_689_494_000),
     )?;
+    Ok(())
+}
+
+pub(crate) fn strays(rt: &HostRuntime) -> anyhow::Result<()> {
+    println!(rt; "where grosz go astray")?;
+    bond_values(rt)?;
+    let one_bond = deposit_of(&[first_bond(1_000)], &DurationRates2020)?;
     say(
         rt,
         "  DSPAN of portfolio 2, each part to nearest",
-        owed(whole, Zloty::ZERO).total(),
+        Money(one_bond.summary.dspan.grosz()),
         Money(1_217_269),
     )?;
     let foreign_share = PricedSecurity {
-        row: FOREIGN_SHARE,
+        row: share(0, 10_000, 42_500),
         kind: ClassKind::Liquidity,
     };
-    // Kept: an Option is no plainer: a refused figure is told as 0 beside the one expected, as those of the example are.
-    let (once, _) = foreign_share
-        .valuation(1)
-        .unwrap_or((Zloty::ZERO, Zloty::ZERO));
+    let (once, _) = foreign_share.valuation(1).context("A is too large")?;
     say(
         rt,
         "  A of 1 at 1.0000 and a rate of 4.2500, the rate applied once",
         Amount(once.units()),
         Amount(42_500),
-    )
+    )?;
+    say(
+        rt,
+        "  DOLR of class 0 of three, each credit rounded down",
+        credited()?,
+        Money(1),
+    )?;
+    Ok(())
 }

@@ -19,6 +19,7 @@ use terms::layer::Layer;
 use terms::refusal::Refusal;
 
 // The kind byte of a hexadecimal line, and the digits of its fields.
+// Kept: no plainer: 30 alone is asked here, so that the byte may be no kind's; the enum of the kinds is `FrameLine`.
 pub fn split(line: &[u8]) -> Result<(u8, &[u8]), Fault>
     ensures { MatchResult result (λ p. (hexadecimal line.now ≡ true) × (p.0 ≡ number_of (take 2 line.now)) × (p.1.now ≡ drop 2 line.now)) (λ f. (hexadecimal line.now ≡ false) × (f ≡ frame_fault NotHexadecimal)) }
 {
@@ -150,6 +151,7 @@ fn line_length<F: Frame>(item: &F::Record) -> usize
 }
 
 // Writes the frame of `item` and a line feed at the front of `memory`, and tells how many bytes these are.
+// Kept: no plainer: the memory is the caller's, who writes on behind these bytes, and knows by the count where.
 pub fn write<F: Frame>(item: &F::Record, memory: &mut [u8]) -> Result<usize, Fault>
     ensures told { result ≡ written_answer (line_of F.kind (F.figures item.now)) memory.old }
     ensures after { memory.new ≡ written (line_of F.kind (F.figures item.now)) memory.old }

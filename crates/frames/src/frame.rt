@@ -42,7 +42,7 @@ pub trait Frame {
         ensures { result.now ≡ kind.widths };
 
     // What the fields hold for a record.
-    // Kept: a From and a TryFrom are no plainer: the laws told and made speak of both, so that both stand in the trait.
+    // Kept: a From and a TryFrom are no plainer: a law would have to tie each to `figures`, which these two state at once.
     fn figures_of(item: &Self::Record) -> Self::Figures
         ensures { Self.Figures.items result ≡ figures item.now };
 

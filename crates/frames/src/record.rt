@@ -49,6 +49,7 @@ pub struct BookingRecord {
 }
 
 // D: the deposit of one class, in grosz.
+// Kept: a rule of the project: a D frame has these five figures one by one, as a class does.
 #[derive(Clone, Copy)]
 pub struct DepositRecord {
     pub class: u8,

@@ -20,7 +20,7 @@ fn settle(rt: &HostRuntime, book: &NetTable, sheet: &RateSheet) -> io::Result<()
         Ok(measure) => say_measure(rt, measure, &classes, matches.records()),
         Err(fault) => {
             println!(rt; "The deposit is refused.")?;
-            let refused = LineFault { line: 0, fault };
+            let refused = LineFault::from(fault);
             println!(rt; "{refused}.")
         }
     }

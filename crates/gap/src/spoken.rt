@@ -33,7 +33,7 @@ fn say_held(rt: &HostRuntime, number: usize, class: &ClassMargin) -> io::Result<
 }
 
 // Says what a pair matches.
-// Kept: gap and replay differ in one letter; wording knows no Match, and a crate for this line is no plainer.
+// Kept: no plainer: wording knows no Match, and a crate for this one line, which replay indents, would stand on deposits.
 fn say_match(rt: &HostRuntime, pair: &Match) -> io::Result<()> {
     let first = pair.first;
     let second = pair.second;

@@ -3,7 +3,7 @@ ghost use Rattle.histories.specs.Demands.{Right};
 ghost use Rattle.std.specs.Prelude.{◌≡◌, ℕ, ◌<◌, ◌≤◌, [], length, drop, pos, IfOk, MatchResult, OnOk};
 ghost use Rattle.histories.specs.Histories.{Blank, Fits, History, at_first, nets_of, noted, tally};
 ghost use Rattle.histories.specs.Memories.{answered_into, entered_into, memory_of, written_by};
-ghost use Rattle.lists.specs.Lists.{Appended, items, lender, memory, no_such_place};
+ghost use Rattle.lists.specs.Lists.{items, lender, memory, no_such_place};
 ghost use Rattle.surcharges.specs.Surcharges.{with_additions};
 ghost use Rattle.tops.specs.Tallies.{tally_nets};
 
@@ -22,17 +22,6 @@ pub struct Unopened<B, S> {
     pub fault: Fault,
     pub book: B,
     pub sheet: S,
-}
-
-// One entry more, in a log that has a place for it.
-// Kept: as a method of `List` it would serve deposits too, but it requires room, and public calls ask nothing of their callers
-// (a rule of the project).
-fn note(log: &mut List<'_, Entry>, entry: Entry)
-    requires { length (items log.old) < length (memory log.old) }
-    ensures lender { lender log.new ≡ lender log.old }
-    ensures noted { Appended entry log.old log.new }
-{
-    log.append(entry).unwrap()
 }
 
 // The tops of the two piles, at which the calls of a script are made.
@@ -100,13 +89,13 @@ impl<T: Top, U: Cover> Tops<T, U> {
     {
         for step in script {
             let entry = self.take_step(step, classes, matches);
-            note(log, entry);
+            log.append(entry).unwrap();
         }
     }
 }
 
 // Opens both tops, and makes the calls.
-// Kept: as `replay`: memory is handed in (a rule of the project), and each of the six is of a kind of its own.
+// Kept: as `replay`: memory is handed in (a rule of the project), and a struct of these borrows is no plainer.
 fn begin<T: Top, U: Cover>(
     book: T::Below,
     sheet: U::Below,
@@ -138,7 +127,7 @@ fn begin<T: Top, U: Cover>(
 // Opens a top above a book and one above a sheet, and makes the calls of a script at them. The log is then a history: one
 // entry a call, as the tally of those before it decides, and each deposit told is what a deposit promises. Over a book whose
 // nets are 0 the tally begins blank. Where the log has too few places no call is made, and book and sheet are given back.
-// Kept: memory is handed in (a rule of the project), and each of the six is of a kind of its own.
+// Kept: memory is handed in (a rule of the project); a struct of these borrows is no plainer, as at `Tops`.
 pub fn replay<T: Top, U: Cover>(
     book: T::Below,
     sheet: U::Below,

@@ -10,7 +10,7 @@ use terms::limits::{CLASSES, PAIRS};
 
 // The summary, one record a class, and one match a pair at the front of as many places as a sheet has pairs at most, with
 // none in the places behind them.
-// Kept: a log's entries are copied, so a `Telling` is `Copy`, which the library's `ArrayVec` is not.
+// Kept: no plainer: an `Entry` is `Copy`, so that `List::read` reads a log, and the library's `ArrayVec` is not.
 #[derive(Clone, Copy)]
 pub struct Telling {
     pub summary: Summary,

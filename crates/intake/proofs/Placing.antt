@@ -1,5 +1,5 @@
 -- From an answer in the first places of a memory, ws before the rest of cs, to that of the whole memory. Assumes nothing.
-use Rattle.std.proofs.Common.{◌≡◌, ℕ, ◌≤◌, leb, List, ◌++◌, length, drop, Some, None, Ok, Err, Option, Result, IfOk, true, sym, ap, ◌∙◌, subst, le-leb, arith}
+use Rattle.std.proofs.Common.{◌≡◌, ℕ, ◌≤◌, leb, List, ◌++◌, length, drop, None, Ok, Err, Option, Result, Bool, true, false, sym, refl, ap, ◌∙◌, subst, le-leb, leb-true, arith}
 use Rattle.std.proofs.lemmas.List.{append_assoc, drop-append-le, length-take-le, take-append-drop}
 use Rattle.std.specs.Array.{IsFirstChunk}
 use Rattle.terms.specs.declared.fault.Fault.{Fault}
@@ -9,16 +9,24 @@ use Rattle.terms.specs.declared.refusal.Refusal.TheVariants.{AnswerMemoryTooShor
 use Rattle.terms.specs.Limits.{answer_memory, text_limit}
 use Rattle.terms.specs.Questions.{ask, answer}
 use Rattle.lines.specs.Lines.{fed}
-use Rattle.intake.specs.Answering.{answer_bytes, call_answer, memory_after, tell_answer, tell_memory, text_refusal, told_lines, unless_refused}
+use Rattle.lines.specs.Texts.{length_answer}
+use Rattle.intake.specs.Answering.{answer_bytes, call_answer, memory_after, tell_answer, tell_memory, text_lines, text_refusal, told_lines, unless_long, unless_refused}
 use Rattle.intake.specs.Filling.{Fills}
-use Rattle.intake.specs.Yields.{YieldsFrames, YieldsMargin}
+use Rattle.intake.specs.Yields.{YieldsFrames}
+
+-- ---- the length of a text, as it is told
+
+was_short : (b : Bool) → ◌≡◌ {A = Result (Unit {0}) Fault} (answer WholeText 0 tt (ask b TextTooLong None)) (Ok tt) → b ≡ true
+was_short true e = refl
+was_short false e = let z : ◌≡◌ {A = ℕ} 0 1 = cc in absurd (omega arith)
+
+was_long : (b : Bool) (f : Fault) → ◌≡◌ {A = Result (Unit {0}) Fault} (answer WholeText 0 tt (ask b TextTooLong None)) (Err f) → b ≡ false
+was_long true f e = let z : ◌≡◌ {A = ℕ} 0 1 = cc in absurd (omega arith)
+was_long false f e = refl
 
 module _ (cs xs : List ℕ) (first : IsFirstChunk cs xs answer_memory) where
   long : length xs ≡ answer_memory
   long = ap length first.same ∙ length-take-le answer_memory cs first.enough
-
-  roomy : leb answer_memory (length xs) ≡ leb answer_memory (length cs)
-  roomy = le-leb answer_memory (length xs) (omega (arith, long)) ∙ sym (le-leb answer_memory (length cs) first.enough)
 
   front : (bytes : List ℕ) (k : ℕ) → k ≤ answer_memory → (bytes ++ drop k xs) ++ drop answer_memory cs ≡ bytes ++ drop k cs
   front bytes k small =
@@ -41,30 +49,9 @@ module _ (cs xs : List ℕ) (first : IsFirstChunk cs xs answer_memory) where
         owed = m.owed;
       }
 
-  -- ---- the call
-
-  after_placed : (o : Option Refusal) (bytes : List ℕ) → IfOk (answer WholeText 0 (length bytes) o) (λ count. count ≤ answer_memory)
-      → unless_refused o bytes xs ++ drop answer_memory cs ≡ unless_refused o bytes cs
-  after_placed None bytes small = front bytes (length bytes) small
-  after_placed (Some refusal) bytes small = ap (λ l. l ++ drop answer_memory cs) first.same ∙ take-append-drop answer_memory cs
+  -- ---- the call of a program
 
   module _ (text : List ℕ) where
-    pub told_placed : call_answer text xs ≡ call_answer text cs
-    told_placed = ap (λ b. answer WholeText 0 (length (answer_bytes text)) (ask b AnswerMemoryTooShort (ask (leb (length text) text_limit) TextTooLong None))) roomy
-
-    pub memory_placed : (r : Result ℕ Fault) (ws : List ℕ) → r ≡ call_answer text xs → IfOk r (λ count. count ≤ answer_memory) → ws ≡ memory_after text xs
-        → ws ++ drop answer_memory cs ≡ memory_after text cs
-    memory_placed r ws told small is =
-        ap (λ l. l ++ drop answer_memory cs) is
-        ∙ after_placed (text_refusal text xs) (answer_bytes text) (subst (λ (q : Result ℕ Fault). IfOk q (λ count. count ≤ answer_memory)) told small)
-        ∙ ap (λ b. unless_refused (ask b AnswerMemoryTooShort (ask (leb (length text) text_limit) TextTooLong None)) (answer_bytes text) cs) roomy
-
-    pub margin_placed : (r : Result ℕ Fault) (ws : List ℕ) → IfOk r (λ count. count ≤ answer_memory) → YieldsMargin text xs r ws → YieldsMargin text cs r (ws ++ drop answer_memory cs)
-    margin_placed (Ok count) ws small h = frames_placed text count ws small h
-    margin_placed (Err f) ws small h = tt
-
-    -- ---- the call of a program
-
     enough : leb answer_memory (length cs) ≡ true
     enough = le-leb answer_memory (length cs) first.enough
 
@@ -76,3 +63,38 @@ module _ (cs xs : List ℕ) (first : IsFirstChunk cs xs answer_memory) where
       lines_placed small =
           (fills_placed _ count ws small h).memory ∙ ap (λ k. fed (told_lines text) ++ drop k cs) h.told
           ∙ sym (ap (λ b. unless_refused (ask b AnswerMemoryTooShort None) (fed (told_lines text)) cs) enough)
+
+    -- ---- the call, which asks for the length of the text as well
+
+    abbrev asked : Bool → Option Refusal
+    asked b = ask b TextTooLong None
+
+    refusal_by : text_refusal text cs ≡ asked (leb (length text) text_limit)
+    refusal_by = ap (λ b. ask b AnswerMemoryTooShort (asked (leb (length text) text_limit))) enough
+
+    module _ (short : length_answer text ≡ Ok tt) where
+      fine : leb (length text) text_limit ≡ true
+      fine = was_short (leb (length text) text_limit) short
+
+      passes : text_refusal text cs ≡ None
+      passes = refusal_by ∙ ap asked fine
+
+      pub short_text : length text ≤ text_limit
+      short_text = leb-true (length text) text_limit fine
+
+      module _ (count : ℕ) (ws : List ℕ) (h : Fills (told_lines text) xs count ws) where
+        filled : Fills (text_lines text) xs count ws
+        filled = subst (λ lines. Fills lines xs count ws) (ap (λ b. unless_long (asked b) text) fine) h
+
+        pub count_answered : Ok count ≡ call_answer text cs
+        count_answered = ap Ok filled.told ∙ sym (ap (answer WholeText 0 (length (answer_bytes text))) passes)
+
+        pub bytes_answered : count ≤ answer_memory → ws ++ drop answer_memory cs ≡ memory_after text cs
+        bytes_answered small =
+            (fills_placed _ count ws small filled).memory ∙ ap (λ k. answer_bytes text ++ drop k cs) filled.told
+            ∙ sym (ap (λ o. unless_refused o (answer_bytes text) cs) passes)
+
+    pub kept : (f : Fault) → length_answer text ≡ Err f → xs ++ drop answer_memory cs ≡ memory_after text cs
+    kept f e =
+        ap (λ l. l ++ drop answer_memory cs) first.same ∙ take-append-drop answer_memory cs
+        ∙ sym (ap (λ o. unless_refused o (answer_bytes text) cs) (refusal_by ∙ ap asked (was_long (leb (length text) text_limit) f e)))

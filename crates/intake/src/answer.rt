@@ -18,17 +18,6 @@ pub(crate) const MEMORY_TOO_SHORT: Fault = Fault {
     place: 0,
 };
 
-// The answer where there is room for it: a text that is too long is refused.
-fn answer_within(text: &[u8], answer: &mut [u8; ANSWER_MEMORY]) -> Result<usize, Fault>
-    ensures told { result ≡ call_answer text.now answer.old }
-    ensures memory { answer.new ≡ memory_after text.now answer.old }
-    ensures size { IfOk result (λ count. count ≤ answer_memory) }
-    ensures yields { YieldsMargin text.now answer.old result answer.new }
-{
-    check_length(text)?;
-    Ok(write_answer(text, answer))
-}
-
 // Writes the answer to a text at the front of `answer`, and tells how many bytes these are: the frames of the deposit, or
 // that of the first refusal. A memory that is too short and a text that is too long are refused, and nothing is written.
 pub fn answer_text(text: &[u8], answer: &mut [u8]) -> Result<usize, Fault>
@@ -40,5 +29,6 @@ pub fn answer_text(text: &[u8], answer: &mut [u8]) -> Result<usize, Fault>
     let front = answer
         .first_chunk_mut::<ANSWER_MEMORY>()
         .ok_or(MEMORY_TOO_SHORT)?;
-    answer_within(text, front)
+    check_length(text)?;
+    Ok(write_answer(text, front))
 }

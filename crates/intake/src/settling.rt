@@ -28,6 +28,7 @@ fn settle(book: &NetTable, sheet: &RateSheet, answer: &mut [u8; ANSWER_MEMORY]) 
     let mut matches = List::over(&mut places);
     match deposit(book, sheet, &mut classes, &mut matches) {
         Ok(summary) => write_deposit(&classes, summary, answer),
+        // Kept: no plainer: with `into` this arm would need a proof file, which it does without.
         Err(fault) => write_fault(LineFault { line: 0, fault }, answer),
     }
 }

@@ -11,6 +11,7 @@ use terms::limits::ANSWER_MEMORY;
 
 // Writes the answer to a text at the front of `answer`, and tells how many bytes these are. A text that is too long is
 // answered with the frame of its refusal, which has no line. An answer memory that is too short is refused.
+// Kept: no plainer: it answers as the call for C does, whose clauses it shares.
 pub fn tell_text(text: &[u8], answer: &mut [u8]) -> Result<usize, Fault>
     ensures told { result ≡ tell_answer text.now answer.old }
     ensures memory { answer.new ≡ tell_memory text.now answer.old }

@@ -10,11 +10,11 @@ use entries::line_fault::LineFault;
 use frames::codec::write;
 use frames::frame::Frame;
 use frames::kinds::{DepositFrame, FaultFrame, TotalFrame};
-use frames::record::{DepositRecord, FaultRecord, TotalRecord};
+use frames::record::{DepositRecord, TotalRecord};
 use terms::limits::{ANSWER_MEMORY, CLASSES};
 
 // Writes the frame of `item` at the front of `memory`, which has room for it, and tells how many bytes these are.
-// Kept: the C interface takes the answer as bytes and returns a count, so that each step here tells how many it wrote.
+// Kept: no plainer: a writer over the memory would say in each contract how far it is filled, as the counts here do.
 fn put<F: Frame>(item: &F::Record, memory: &mut [u8]) -> usize
     requires { size_of F.kind ≤ length memory.old }
     ensures fills { Fills (line_of F.kind (F.figures item.now) ∷ []) memory.old result memory.new }
@@ -27,9 +27,7 @@ fn put<F: Frame>(item: &F::Record, memory: &mut [u8]) -> usize
 pub(crate) fn write_fault(refused: LineFault, answer: &mut [u8; ANSWER_MEMORY]) -> usize
     ensures fills { Fills (fault_line refused ∷ []) answer.old result answer.new }
 {
-    let mut item = FaultRecord::from(refused.fault);
-    item.line = refused.line;
-    put::<FaultFrame>(&item, answer)
+    put::<FaultFrame>(&refused.into(), answer)
 }
 
 // Writes the frame of a class.
@@ -63,7 +61,7 @@ fn write_class(class: u8, margin: &ClassMargin, memory: &mut [u8]) -> usize
 }
 
 // Writes the frames of the held classes, by rising number.
-// Kept: the place of each frame is the count of the bytes before it, since the C interface takes them in one memory.
+// Kept: no plainer, as at `put`: the count of the bytes written is the place of the next frame.
 fn write_classes(classes: &[ClassMargin; CLASSES], answer: &mut [u8]) -> usize
     requires { class_size * class_count ≤ length answer.old }
     ensures fills { Stands (records_lines class_count classes.now) answer.old result answer.new }
@@ -93,7 +91,7 @@ fn write_total(summary: Summary, memory: &mut [u8]) -> usize
 }
 
 // Writes the frame of the whole portfolio from the byte `at` on, and tells where it ends.
-// Kept: the C interface takes all frames in one memory, so that this one is told where those before it ended.
+// Kept: no plainer, as at `put`: it is told where the frames before it end.
 fn add_total(summary: Summary, at: usize, answer: &mut [u8]) -> usize
     requires { at + total_size ≤ length answer.old }
     ensures lines { Appends (summary_line summary ∷ []) at answer.old result answer.new }

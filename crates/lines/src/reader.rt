@@ -31,6 +31,7 @@ fn line_from(text: &[u8], start: usize) -> Option<(&[u8], usize)>
     ensures after { MatchOption result (after_line (drop start text.now) ≡ []) (λ p. drop p.1 text.now ≡ after_line (drop start text.now)) }
     ensures joined { fed (lines_of text.now) ≡ closed text.now }
 {
+    // Kept: no plainer: `get` gives an empty rest at the end of the text, which is no line, so that this would be asked of it.
     if start >= text.len() {
         return None;
     }

@@ -14,7 +14,7 @@ pub const NO_SUCH_PLACE: Fault = Fault {
 
 // The records appended so far, at the front of memory that the caller hands in.
 // Kept: one list over a borrowed slice is a rule of the project: it is a slice of places, and how many of them are filled.
-// Kept: each call that is lent a list says that its lender is the same after it: what a call keeps is no fact of one value.
+// Kept: no plainer: that the lender is the same after a call is no fact of one value, so that each contract says it.
 #[derive(Drop)]
 pub struct List<'a, T> {
     places: &'a mut [T],

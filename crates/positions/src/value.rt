@@ -35,12 +35,13 @@ fn position<P: Positions, S: Sheet>(
     if net == 0 {
         return Ok(None);
     }
-    let Some(priced) = priced_security(sheet, security) else {
-        return Err(Layer::Deposit.fault(security, Refusal::SecurityWithoutRow));
-    };
-    let Some((_, value)) = priced.valuation(net) else {
-        return Err(Layer::Deposit.fault(security, Refusal::AmountTooLarge));
-    };
+    let priced = priced_security(sheet, security).ok_or(Layer::Deposit.fault(
+        security,
+        Refusal::SecurityWithoutRow,
+    ))?;
+    let (_, value) = priced
+        .valuation(net)
+        .ok_or(Layer::Deposit.fault(security, Refusal::AmountTooLarge))?;
     Ok(Some(Position {
         class: priced.row.class,
         side: side_of(net),

@@ -15,6 +15,7 @@ use sheets::rate_sheet::RateSheet;
 use surcharges::cover::Cover;
 use surcharges::plain::Plain;
 use surcharges::surcharge::Surcharge;
+use terms::fault::Fault;
 use terms::limits::{CLASSES, PAIRS};
 use tops::bare::Bare;
 use tops::top::Top;
@@ -50,6 +51,7 @@ impl Places {
     }
 }
 
+// Kept: no plainer: it only fills a journal's memory; a Default of Booking, in books, would be there for this one use.
 const NO_BOOKING: Booking = Booking {
     security: 0,
     quantity: 0,
@@ -64,11 +66,11 @@ pub(crate) struct Day<'a> {
 }
 
 impl<'a> Day<'a> {
-    // Makes the calls at the tops of two piles, and says what each gave.
+    // Makes the calls at the tops of two piles, and says what each gave, or why the sheet was refused.
     fn at<T: Top + Drop, U: Cover + Drop>(
         &self,
         book: T::Below,
-        sheet: U::Below,
+        sheet: Result<U::Below, Fault>,
     ) -> anyhow::Result<()>
     where
         T::Own: OwnCall,
@@ -77,6 +79,10 @@ impl<'a> Day<'a> {
         U::Below: Drop,
     {
         let rt = self.rt;
+        let sheet = match sheet {
+            Ok(sheet) => sheet,
+            Err(fault) => return say_fault(rt, fault),
+        };
         let orders = self.orders;
         let places = self.places;
         let heap = rt.alloc();
@@ -117,35 +123,29 @@ impl Desk {
 
     // The day of the desk.
     pub(crate) fn run(self, day: Day<'_>) -> anyhow::Result<()> {
-        let rt = day.rt;
-        let mut bookings = vec![in rt.alloc(); NO_BOOKING; day.places.bookings]?;
+        let mut bookings = vec![in day.rt.alloc(); NO_BOOKING; day.places.bookings]?;
         let mut table = NetTable::open();
         // Kept: each desk is of other types, so no value that could be called chooses one.
         match self {
             Desk::Rates => {
-                day.at::<Trial<NetTable>, Plain<DurationRates2020>>(table, DurationRates2020)
+                day.at::<Trial<NetTable>, Plain<DurationRates2020>>(table, Ok(DurationRates2020))
             }
-            Desk::Pairs => match pairs_sheet() {
-                Ok(sheet) => day.at::<Trial<Trial<NetTable>>, Surcharge<RateSheet>>(
-                    Trial::open(table),
-                    sheet,
-                ),
-                Err(fault) => say_fault(rt, fault),
-            },
+            Desk::Pairs => day.at::<Trial<Trial<NetTable>>, Surcharge<RateSheet>>(
+                Trial::open(table),
+                pairs_sheet(),
+            ),
             Desk::Journal => {
                 let book = Journal::open(&mut bookings);
-                day.at::<Bare<Journal>, Plain<DurationRates2020>>(book, DurationRates2020)
+                day.at::<Bare<Journal>, Plain<DurationRates2020>>(book, Ok(DurationRates2020))
             }
             Desk::Layered => {
                 let book = Journal::open(&mut bookings);
-                day.at::<Trial<Journal>, Plain<DurationRates2020>>(book, DurationRates2020)
+                day.at::<Trial<Journal>, Plain<DurationRates2020>>(book, Ok(DurationRates2020))
             }
-            Desk::Stacked => match surcharged_sheet() {
-                Ok(sheet) => day.at::<Trial<&mut NetTable>, Surcharge<Surcharge<RateSheet>>>(
-                    &mut table, sheet,
-                ),
-                Err(fault) => say_fault(rt, fault),
-            },
+            Desk::Stacked => day.at::<Trial<&mut NetTable>, Surcharge<Surcharge<RateSheet>>>(
+                &mut table,
+                surcharged_sheet(),
+            ),
         }
     }
 }

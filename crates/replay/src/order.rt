@@ -76,64 +76,73 @@ impl FromStr for Memory {
     }
 }
 
+// The next word.
+fn next_word<'a>(words: &mut SplitWhitespace<'a>) -> Result<&'a str, NotUnderstood> {
+    words.next().ok_or(NotUnderstood)
+}
+
 // What the next word names.
-fn read<T: FromStr>(words: &mut SplitWhitespace<'_>) -> Option<T>
+fn read<T: FromStr>(words: &mut SplitWhitespace<'_>) -> Result<T, NotUnderstood>
 where
     T::Err: Drop,
 {
-    words.next()?.parse().ok()
+    next_word(words)?.parse().map_err(|_| NotUnderstood)
 }
 
 // The next word is this one.
-fn keyword(words: &mut SplitWhitespace<'_>, word: &str) -> Option<()> {
-    (words.next()? == word).then_some(())
+fn keyword(words: &mut SplitWhitespace<'_>, word: &str) -> Result<(), NotUnderstood> {
+    if next_word(words)? == word {
+        Ok(())
+    } else {
+        Err(NotUnderstood)
+    }
 }
 
 // book SECURITY bought|sold QUANTITY
-fn booking(words: &mut SplitWhitespace<'_>) -> Option<Booking> {
+fn booking(words: &mut SplitWhitespace<'_>) -> Result<Booking, NotUnderstood> {
     let security = read(words)?;
     // Kept: a FromStr of Side, in terms, would be public, with an error, a contract and an edit of its own, for this one use.
-    let side = match words.next()? {
+    let side = match next_word(words)? {
         "bought" => Side::Bought,
         "sold" => Side::Sold,
-        _ => return None,
+        _ => return Err(NotUnderstood),
     };
     let quantity = side.signed(read(words)?);
-    Some(Booking { security, quantity })
+    Ok(Booking { security, quantity })
 }
 
 // surcharge CLASS y ADDITION x ADDITION
-fn surcharge(words: &mut SplitWhitespace<'_>) -> Option<Setting> {
+fn surcharge(words: &mut SplitWhitespace<'_>) -> Result<Setting, NotUnderstood> {
     let class = read(words)?;
     keyword(words, "y")?;
     let y = read(words)?;
     keyword(words, "x")?;
     let x = read(words)?;
     let addition = Addition { y, x };
-    Some(Setting { class, addition })
+    Ok(Setting { class, addition })
 }
 
 // memory classes|matches|entries|bookings PLACES
-fn memory_named(words: &mut SplitWhitespace<'_>) -> Option<Line> {
+fn memory_named(words: &mut SplitWhitespace<'_>) -> Result<Line, NotUnderstood> {
     let of = read(words)?;
     let places = read(words)?;
-    Some(Line::Memory { of, places })
+    Ok(Line::Memory { of, places })
 }
 
 // What the words of a line say, up to the last that it needs.
-fn said(words: &mut SplitWhitespace<'_>) -> Option<Line> {
+fn said(words: &mut SplitWhitespace<'_>) -> Result<Line, NotUnderstood> {
     let Some(first) = words.next() else {
-        return Some(Line::Nothing);
+        return Ok(Line::Nothing);
     };
     match first {
-        "desk" => Some(Line::Desk(read(words)?)),
+        "desk" => Ok(Line::Desk(read(words)?)),
         "memory" => memory_named(words),
-        "book" => Some(Line::Order(Order::Book(booking(words)?))),
-        "surcharge" => Some(Line::Order(Order::Surcharge(surcharge(words)?))),
-        "commit" => Some(Line::Order(Order::Commit)),
-        "drop" => Some(Line::Order(Order::Drop)),
-        "deposit" => Some(Line::Order(Order::Deposit)),
-        _ => None,
+        "book" => Ok(Line::Order(Order::Book(booking(words)?))),
+        "surcharge" => Ok(Line::Order(Order::Surcharge(surcharge(words)?))),
+        "commit" => Ok(Line::Order(Order::Commit)),
+        "drop" => Ok(Line::Order(Order::Drop)),
+        "deposit" => Ok(Line::Order(Order::Deposit)),
+        _ => Err(NotUnderstood),
     }
 }
 
@@ -148,9 +157,10 @@ impl FromStr for Line {
 
     fn from_str(text: &str) -> Result<Line, NotUnderstood> {
         let mut words = before_comment(text).split_whitespace();
-        match said(&mut words) {
-            Some(line) if words.next().is_none() => Ok(line),
-            _ => Err(NotUnderstood),
+        let line = said(&mut words)?;
+        match words.next() {
+            None => Ok(line),
+            Some(_) => Err(NotUnderstood),
         }
     }
 }

@@ -59,6 +59,8 @@ impl Session {
         number: usize,
         text: &str,
     ) -> anyhow::Result<()> {
+        // Kept: no plainer: a line is data, read with no session at hand; `parse` would have to hand out a boxed closure, which the
+        // gate refuses.
         match text.parse() {
             Ok(Line::Nothing) => {}
             Ok(Line::Desk(desk)) => self.open(rt, desk)?,

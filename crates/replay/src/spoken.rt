@@ -66,7 +66,7 @@ fn say_class(rt: &HostRuntime, number: usize, class: &ClassMargin) -> anyhow::Re
     Ok(())
 }
 
-// Kept: gap and replay differ in one letter; wording knows no Match, and a crate for this line is no plainer.
+// Kept: no plainer: wording knows no Match, and a crate for this one line, which gap does not indent, would stand on deposits.
 fn say_match(rt: &HostRuntime, pair: &Match) -> anyhow::Result<()> {
     let first = pair.first;
     let second = pair.second;

@@ -7,7 +7,8 @@ use terms::choice::ClassKind;
 use terms::limits::{DURATION_LIMIT, DURATION_ONE, PRICE_LIMIT, RATE_LIMIT, WHOLE};
 
 // The rates of a class, each in 10^-5 of the whole.
-// Kept: y, x and dep are no struct of their own: a row may be unlawful before it is judged, and the Rates of a sheet never are.
+// Kept: no plainer: a row may be unlawful before it is judged, and the Rates of a sheet never are; a third type for y, x and dep,
+// which both would hold, would be named at each use.
 #[derive(Clone, Copy, PartialEq, Eq, Debug)]
 pub struct ClassRow {
     pub kind: ClassKind,

@@ -10,7 +10,8 @@ use rules::rows::PairRow;
 use std::marker::Model;
 
 // A sheet, and the place of the pair that comes next. It is seen as the list of the pairs that are left.
-// Kept: a sheet need not hold its pairs as a slice, so that the trait asks for the pair at a place, and the place is counted.
+// Kept: no plainer: `pair` is public, and a slice beside it would ask more of each sheet; a chain over `(0..)` has no type that
+// can be handed out; so the place is counted.
 #[derive(Drop)]
 pub struct Pairs<'a, S: Sheet> {
     sheet: &'a S,

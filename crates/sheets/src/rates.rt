@@ -3,7 +3,8 @@ ghost use Rattle.std.specs.Prelude.{◌≤◌};
 ghost use Rattle.terms.specs.Limits.{whole};
 
 // Each in 10^-5 of the whole, which none is above.
-// Kept: a ClassRow has the same three figures, but may be unlawful before it is judged; Rates never are.
+// Kept: no plainer: a ClassRow may be unlawful before it is judged, and Rates never are; a third type for y, x and dep, which
+// both would hold, would be named at each use.
 #[derive(Clone, Copy)]
 pub struct Rates {
     pub y: u32,

@@ -52,6 +52,7 @@ impl<S: Sheet> Cover for Plain<S> {
     }
 
     fn call(&mut self, own: Option<&Infallible>) -> Result<(), Fault> {
+        // Kept: no plainer: the match shows that there is no such call; `map_or` would need a closure that nothing can call.
         match own {
             Some(own) => match *own {},
             None => Ok(()),

@@ -82,6 +82,7 @@ impl<S: Sheet> Cover for Surcharge<S> {
     }
 
     fn call(&mut self, own: Option<&Setting>) -> Result<(), Fault> {
+        // Kept: tried; a closure of `map_or` lends the surcharge, and what it holds after the call stays open.
         match own {
             Some(own) => self.set(*own),
             None => Ok(()),

@@ -81,6 +81,7 @@ impl<B: Book> Top for Bare<B> {
     }
 
     fn call(&mut self, call: &Call<Infallible>) -> Result<(), Fault> {
+        // Kept: no plainer: a call is data that scripts write down and the tally judges; a closure could not be compared.
         match call {
             Call::Book(booking) => self.take(*booking),
             Call::Own(own) => match *own {},

@@ -27,6 +27,7 @@ impl<B: Book> Top for Trial<B> {
     }
 
     fn call(&mut self, call: &Call<TrialCall>) -> Result<(), Fault> {
+        // Kept: no plainer: a call is data that scripts write down and the tally judges; a closure could not be compared.
         match call {
             Call::Book(booking) => self.book(*booking),
             Call::Own(own) => match own {

@@ -67,6 +67,7 @@ impl<'a, T: Drop> List<'a, T> {
         ensures lender { lender self.new ≡ lender self.old }
         ensures cases { Appends x self.old self.new result }
     {
+        // Kept: tried; after `get_mut` nothing is known of what the slice ends as, so that the place is asked for before it is written.
         let at = self.count();
         if at >= self.room() {
             return Err(NO_SUCH_PLACE);

@@ -12,6 +12,7 @@ use terms::limits::{CLASSES, WHOLE};
 use terms::refusal::Refusal;
 
 // Nothing is added.
+// Kept: no plainer: it is a constant, of which the array is made; a Default of Addition, in rules, would be for this table alone.
 const NOTHING: Addition = Addition { y: 0, x: 0 };
 
 // The questions put to a setting.

@@ -65,7 +65,7 @@ impl<B: Book> Trial<B> {
         ensures left { B.Book.left self.new.below + nonzero (trial_quantities (trial_nets self.old) (B.Positions.nets self.old.below)) ≡ B.Book.left self.old.below }
         ensures taken { Taken B.Positions.nets B.Book.left B.Book.posts B.Positions.layer self.old.below (postings (trial_quantities (trial_nets self.old) (B.Positions.nets self.old.below)) security_count) self.new.below }
     {
-        // Kept: the loop goes over security numbers, and indexes nothing.
+        // Kept: an iterator chain is no plainer: layer and book are asked by the number itself.
         for security in 0..SECURITIES as u16 {
             let quantity = self.trial_quantity(security);
             if quantity != 0 {

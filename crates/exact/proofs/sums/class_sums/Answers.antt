@@ -71,4 +71,6 @@ loop-security-preserved g c =
 
 pub loop-security-init : goal.loop-security-init
 loop-security-init g c =
-    summed_none (g.S.Sheet.rows c.args.sheet.now) (g.P.Positions.nets c.args.book.now) (replicate 64 nothing) refl (λ k l. get_or-replicate 64 k nothing nothing l)
+    let x = c.default-sums.result in
+    let none : x ≡ nothing = search rules in
+    summed_none (g.S.Sheet.rows c.args.sheet.now) (g.P.Positions.nets c.args.book.now) (replicate 64 x) refl (λ k l. get_or-replicate 64 k x nothing l ∙ none)

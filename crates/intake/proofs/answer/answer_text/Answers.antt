@@ -1,22 +1,35 @@
-use Rattle.std.proofs.Common.{◌∙◌, rules}
+use Rattle.std.proofs.Common.{◌≡◌, Ok, sym, ◌∙◌, rules}
 use Rattle.std.specs.Array.{IsFirstChunk}
 use Rattle.terms.specs.Limits.{answer_memory}
-use Rattle.intake.proofs.Placing.{margin_placed, memory_placed, told_placed}
+use Rattle.lines.specs.Texts.{length_answer}
+use Rattle.intake.proofs.Placing.{bytes_answered, count_answered, frames_placed, kept, short_text}
 use Rattle.intake.proofs.answer.answer_text.Goals as goal
+use Rattle.intake.proofs.answer.answer_text.Goals.{In_ok-front}
+
+first_chunk : (c : In_ok-front) → IsFirstChunk c.args.answer.now c.in_ok-front.front.now answer_memory
+first_chunk c = search rules
+
+pub returns-in_err-check_length-clause-memory : goal.returns-in_err-check_length-clause-memory
+returns-in_err-check_length-clause-memory c =
+    let first = first_chunk (goal.at.returns-in_err-check_length-clause-memory c).In_ok-front in
+    kept _ _ first c.args.text.now _ (sym c.check_length.ensures ∙ c.in_err-check_length.was)
 
 pub returns-clause-told : goal.returns-clause-told
 returns-clause-told c =
-    let first : IsFirstChunk c.args.answer.now c.in_ok-front.front.now answer_memory = search rules in
-    c.answer_within.ensures.told ∙ told_placed _ _ first c.args.text.now
+    let first = first_chunk (goal.at.returns-clause-told c).In_ok-front in
+    let short : length_answer c.args.text.now ≡ Ok tt = sym c.check_length.ensures ∙ c.in_ok-check_length.was in
+    count_answered _ _ first c.args.text.now short _ _ c.write_answer.ensures.fills
 
 pub returns-clause-memory : goal.returns-clause-memory
 returns-clause-memory c =
-    let first : IsFirstChunk c.args.answer.now c.in_ok-front.front.now answer_memory = search rules in
-    let w = c.answer_within.ensures in
-    memory_placed _ _ first c.args.text.now _ _ w.told w.size w.memory
+    let first = first_chunk (goal.at.returns-clause-memory c).In_ok-front in
+    let short : length_answer c.args.text.now ≡ Ok tt = sym c.check_length.ensures ∙ c.in_ok-check_length.was in
+    let w = c.write_answer.ensures in
+    bytes_answered _ _ first c.args.text.now short _ _ w.fills w.size
 
 pub returns-clause-yields : goal.returns-clause-yields
 returns-clause-yields c =
-    let first : IsFirstChunk c.args.answer.now c.in_ok-front.front.now answer_memory = search rules in
-    let w = c.answer_within.ensures in
-    margin_placed _ _ first c.args.text.now _ _ w.size w.yields
+    let first = first_chunk (goal.at.returns-clause-yields c).In_ok-front in
+    let short : length_answer c.args.text.now ≡ Ok tt = sym c.check_length.ensures ∙ c.in_ok-check_length.was in
+    let w = c.write_answer.ensures in
+    frames_placed _ _ first c.args.text.now _ _ w.size (w.yields (short_text _ _ first c.args.text.now short))

@@ -1,16 +1,31 @@
-use Rattle.std.proofs.Common.{◌≡◌, ℕ, ◌+◌, ◌<◌, [], ◌∷◌, ◌++◌, length, take, drop, sym, ap, ◌∙◌, subst, arith, length-set, take_all, drop-set-lt}
+use Rattle.std.proofs.Common.{◌≡◌, ℕ, ◌+◌, ◌<◌, [], ◌∷◌, ◌++◌, length, take, drop, Ok, Err, Result, sym, ap, ◌∙◌, subst, arith, length-set, take_all, drop-set-lt, rules}
 use Rattle.std.proofs.lemmas.List.{take_more, length_push}
-use Rattle.lists.specs.Lists.{items, memory}
+use Rattle.terms.specs.declared.fault.Fault.{Fault}
+use Rattle.lists.specs.declared.list.List.{List}
+use Rattle.lists.specs.Lists.{items, memory, Appended, Appends}
 use Rattle.rules.specs.Rows.{Rows}
 use Rattle.histories.specs.Histories.{Tally, tally, Fits, History}
 use Rattle.histories.specs.Memories.{memory_of}
 use Rattle.histories.proofs.Steps.{history_next, written_next}
+use Rattle.histories.proofs.replay.Tops.run.Given as given
 use Rattle.histories.proofs.replay.Tops.run.Goals as goal
+use Rattle.histories.proofs.replay.Tops.run.Goals.{After-append}
 
-pub note-requires : goal.note-requires
-note-requires g c =
+-- where a place is free, an append is no refusal
+appended : {X : Type 0} (x : X) (s t : List X) (r : Result (Unit {0}) Fault) → length (items s) < length (memory s) → Appends x s t r → Appended x s t
+appended x s t (Ok _) l a = a
+appended x s t (Err e) l a = absurd (omega (arith, a.0))
+
+-- the log has a place for the entry
+free : (g : given.Over) (c : After-append g) → length (items c.loop-step.log) < length (memory c.loop-step.log)
+free g c =
     let inv = c.loop-step.invariant in
     omega (arith, inv.2, inv.3, c.requires.room, c.loop-step-test.true)
+
+pub unwrap-requires : goal.unwrap-requires
+unwrap-requires g c =
+    let room = free g (goal.at.unwrap-requires g c).After-append in
+    search rules
 
 pub loop-step-preserved : goal.loop-step-preserved
 loop-step-preserved g c =
@@ -30,7 +45,8 @@ loop-step-preserved g c =
     let inv = c.loop-step.invariant in
     let took = c.take_step-entry.ensures in
     let l : i < length script = c.loop-step-test.true in
-    let added = c.note.ensures.noted in
+    let spare = free g (goal.at.loop-step-preserved g c).After-append in
+    let added : Appended entry log c.append.new.self = appended _ _ _ _ spare c.append.ensures.cases in
     let at : length (items log) < length script = omega (arith, inv.2, l) in
     let same : length c.loop-step.classes ≡ places = omega (arith, c.loop-step.auto.classes) in
     let pushed : take (i + 1) script ≡ take i script ++ (step ∷ []) = take_more script i step l ∙ ap (λ x. take i script ++ (x ∷ [])) (sym c.step-item.is) in
@@ -38,18 +54,18 @@ loop-step-preserved g c =
     subst (λ (rows : Rows). Fits rules means rows places room before step entry) inv.6
     (subst (λ (n : ℕ). Fits rules means (g.U.Cover.under c.loop-step.self.cover) n room before step entry) same
     (subst (λ (n : ℕ). Fits rules means (g.U.Cover.under c.loop-step.self.cover) (length c.loop-step.classes) n before step entry) inv.4 took.fits)) in (
-      c.note.ensures.lender ∙ inv.0,
+      c.append.ensures.lender ∙ inv.0,
       took.lender ∙ inv.1,
       ap length added.items ∙ length_push (items log) entry ∙ ap (λ n. n + 1) inv.2,
       ap length added.memory ∙ length-set (memory log) (length (items log)) entry ∙ inv.3,
       took.room ∙ inv.4,
       ap (drop (length script)) added.memory ∙ drop-set-lt (length script) (memory log) (length (items log)) entry at ∙ inv.5,
       took.under ∙ inv.6,
-      written_next (items log) (items c.note.new.log) entry (memory_of c.args.classes.now c.args.matches.now)
+      written_next (items log) (items c.append.new.self) entry (memory_of c.args.classes.now c.args.matches.now)
           (memory_of c.loop-step.classes c.loop-step.matches) (memory_of c.take_step-entry.new.classes c.take_step-entry.new.matches)
           added.items inv.7 took.written,
       history_next rules means below places room start before after
-          (take i script) (take (i + 1) script) (items log) (items c.note.new.log) step entry
+          (take i script) (take (i + 1) script) (items log) (items c.append.new.self) step entry
           pushed added.items inv.8 fits took.noted,
     )
 
