@@ -1,7 +1,7 @@
 -- Numbers within their limits, and a table of them of which one moves.
-use Rattle.std.proofs.Common.{◌≡◌, ℕ, ◌<◌, true, eqb, ◌≢◌, List, length, get_or, set, replicate, ℤ, pos, negsuc, ◌+ℤ◌, ◌-ℤ◌, nat_abs, sym, refl, ap, ◌∙◌, subst, ⊎_elim, arith, get_or-set_other, get_or-set_same, w64, SFits, to_z, of_z}
+use Rattle.std.proofs.Common.{◌≡◌, ℕ, ◌<◌, true, eqb, ◌≢◌, List, length, get_or, set, replicate, ℤ, pos, ◌+ℤ◌, ◌-ℤ◌, nat_abs, sym, refl, ap, ◌∙◌, subst, ⊎_elim, arith, get_or-set_other, get_or-set_same}
 use lib.ListN.{length-replicate}
-use Rattle.std.proofs.lemmas.Int.{ints, to_z-of_z}
+use Rattle.std.proofs.lemmas.Int.{ints}
 use Rattle.std.proofs.lemmas.List.{get_or-replicate, get_or_past}
 use Rattle.std.proofs.lemmas.Bool.{cases_lt, cond-true, cond-false, eq-eqb, ne_eqb, cases_eq, leb-true, le-leb}
 use Rattle.terms.specs.Limits.{net_limit, quantity_limit}
@@ -38,16 +38,6 @@ set_books xs security quantity within s =
     (λ (ne : s ≢ security). rw get_or-set_other refl ∙ sym (booked_other nets security quantity s ne))
     (cases_eq s security)
 
--- a net fits the code's numbers
-pub within_fits : (z : ℤ) → Within net_limit z → SFits w64 z
-within_fits (pos n) h = record { sfits = omega (arith, ints) }
-within_fits (negsuc n) h = record { sfits = omega (arith, ints) }
-
--- and so does the quantity of a booking
-pub quantity_fits : (z : ℤ) → Within quantity_limit z → SFits w64 z
-quantity_fits (pos n) h = record { sfits = omega (arith, ints) }
-quantity_fits (negsuc n) h = record { sfits = omega (arith, ints) }
-
 -- two nets lie no further apart than a booking may go
 pub apart : (a b : ℤ) → Within net_limit a → Within net_limit b → Within quantity_limit (a -ℤ b)
 apart a b h k = omega (arith, ints)
@@ -59,7 +49,3 @@ zeros n s =
     (λ h. get_or-replicate n s (pos 0) (pos 0) h)
     (λ h. get_or_past (replicate n (pos 0)) s (pos 0) (omega (arith, length-replicate n (pos 0))))
     (cases_lt s n)
-
-pub difference_stored : (a b : ℤ) → SFits w64 a → SFits w64 b → SFits w64 (a -ℤ b) → to_z w64 (of_z w64 (to_z w64 (of_z w64 a) -ℤ to_z w64 (of_z w64 b))) ≡ a -ℤ b
-difference_stored a b f g h =
-    ap (λ z. to_z w64 (of_z w64 z)) (λ i. to_z-of_z w64 a f i -ℤ to_z-of_z w64 b g i) ∙ to_z-of_z w64 (a -ℤ b) h

@@ -1,17 +1,13 @@
 -- The questions put to a booking, each answered.
-use Rattle.std.proofs.Common.{◌≡◌, ℕ, Bool, true, false, ltb, ℤ, ◌+ℤ◌, None, Option, refl, ap, ◌∙◌, arith}
+use Rattle.std.proofs.Common.{◌≡◌, ℕ, Bool, true, ltb, ℤ, ◌+ℤ◌, None, Option, ap, ◌∙◌}
 use Rattle.terms.specs.Limits.{net_limit}
 use Rattle.terms.specs.Questions.{ask}
+use Rattle.terms.proofs.Answered.{asked}
 use Rattle.terms.specs.declared.refusal.Refusal.{Refusal}
 use Rattle.books.specs.Books.{listed, bookable, within, booking_refusal}
 
 pub ask_yes : (b : Bool) (refusal : Refusal) (next : Option Refusal) → b ≡ true → ask b refusal next ≡ next
 ask_yes b refusal next e = ap (λ x. ask x refusal next) e
-
--- where all are answered yes, each is
-pub ask_none : (b : Bool) (refusal : Refusal) (next : Option Refusal) → ask b refusal next ≡ None → (b ≡ true) × (next ≡ None)
-ask_none true refusal next e = (refl, e)
-ask_none false refusal next e = let z : ◌≡◌ {A = ℕ} 0 1 = cc in absurd (omega arith)
 
 -- every question is answered yes
 pub record Accepted (nets : ℕ → ℤ) (left security : ℕ) (quantity : ℤ) : Type 0 where
@@ -27,8 +23,8 @@ module _ (nets : ℕ → ℤ) (left security : ℕ) (quantity : ℤ) where
 
   pub all_yes : booking_refusal nets left security quantity ≡ None → Accepted nets left security quantity
   all_yes e =
-      let a = ask_none _ _ _ e in
-      let b = ask_none _ _ _ a.1 in
-      let c = ask_none _ _ _ b.1 in
-      let d = ask_none _ _ _ c.1 in
+      let a = asked _ _ _ e in
+      let b = asked _ _ _ a.1 in
+      let c = asked _ _ _ b.1 in
+      let d = asked _ _ _ c.1 in
       record { known = a.0; lawful = b.0; free = c.0; fits = d.0 }

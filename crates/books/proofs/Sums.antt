@@ -1,5 +1,5 @@
 -- One booking more of a journal.
-use Rattle.std.proofs.Common.{◌≡◌, ℕ, zero, suc, ◌+◌, ◌<◌, ◌≤◌, Bool, true, false, cond, eqb, [], ◌∷◌, ◌++◌, length, get_or, take, ℤ, pos, ◌+ℤ◌, sym, refl, ap, ◌∙◌, subst, ⊎_elim, arith, length-append, length-set, take_all}
+use Rattle.std.proofs.Common.{◌≡◌, ℕ, suc, ◌+◌, ◌<◌, ◌≤◌, Bool, true, false, cond, eqb, [], ◌∷◌, ◌++◌, length, get_or, take, ℤ, pos, ◌+ℤ◌, sym, refl, ap, ◌∙◌, subst, ⊎_elim, arith, length-append, length-set, take_all}
 use mathlib.Core.List as L
 use lib.IntN.{+ℤ_assoc, +ℤ_idr, +ℤ_idl}
 use lib.Seq.{take-append-le}
@@ -21,10 +21,6 @@ total_push (x ∷ bs) b s = ap (λ z. share x s +ℤ z) (total_push bs b s) ∙ 
 -- one booking more of a walk
 pub total_more : (bs : L.List Booking) (i : ℕ) (d : Booking) (s : ℕ) → i < length bs → total (take (i + 1) bs) s ≡ total (take i bs) s +ℤ share (get_or bs i d) s
 total_more bs i d s h = ap (λ l. total l s) (take_more bs i d h) ∙ total_push (take i bs) (get_or bs i d) s
-
-pub total_none : (n s : ℕ) → total (take n []) s ≡ pos 0
-total_none zero s = refl
-total_none (suc n) s = refl
 
 added : (t : Bool) (n q : ℤ) → n +ℤ cond t q (pos 0) ≡ cond t (n +ℤ q) n
 added true n q = refl

@@ -17,7 +17,7 @@ use Rattle.rules.specs.Laws.{Matched, Matching, sum_limit, deposit_limit}
 use Rattle.rules.proofs.Parts.{nat_abs_is}
 use Rattle.rules.proofs.Sums.{sum_same, sum_zero}
 use Rattle.rules.proofs.Walk.{Apart, Below, Agree, credits_agree, leftovers_agree, matches_agree, every_map, walk_shrinks}
-use Rattle.rules.proofs.Theorems.{credits_within, matching}
+use Rattle.rules.proofs.Theorems.{apart_pairs, credits_within, matching}
 use Rattle.rules.proofs.Classes.{abs_minus, figure_small, nothing}
 use Rattle.rules.proofs.Fits.{part_small, parts_small}
 use Rattle.rules.proofs.Values.{rounded_none}
@@ -75,16 +75,13 @@ held_none rows h nets c b =
 zero_both : (z w : ℤ) → nat_abs z ≡ 0 → nat_abs w ≤ nat_abs z → w ≡ pos 0
 zero_both z w a b = omega (arith, ints)
 
-apart_all : (rows : Rows) → Lawful rows → Every Apart rows.pairs
-apart_all rows h = every_map (λ p s. s.apart) rows.pairs (sounds rows h)
-
 -- a class of which nothing is held is left with nothing
 left_none : (rows : Rows) → Lawful rows → (nets : ℕ → ℤ) (c : ℕ) → held_in rows nets c ≡ 0 → leftovers (net_value rounded rows nets) rows.pairs c ≡ pos 0
 left_none rows h nets c e =
     let v : ℕ → ℤ = net_value rounded rows nets in
     let b = nothing rounded rounded_none rows nets c e in
     let z : nat_abs (v c) ≡ 0 = omega (arith, b.0, b.1, abs_minus (bought rounded rows nets c) (sold rounded rows nets c)) in
-    zero_both (v c) (leftovers v rows.pairs c) z (omega (arith, nat_abs_is (v c), nat_abs_is (leftovers v rows.pairs c), walk_shrinks v rows.pairs (apart_all rows h) c))
+    zero_both (v c) (leftovers v rows.pairs c) z (omega (arith, nat_abs_is (v c), nat_abs_is (leftovers v rows.pairs c), walk_shrinks v rows.pairs (apart_pairs rows h) c))
 
 -- ---- sums of natural numbers as integers, counts of pairs, matches told
 

@@ -7,7 +7,8 @@ use Rattle.terms.specs.Questions.{ask, fault_of}
 use Rattle.frames.specs.Frames.{digits_refusal, fields_refusal, hexadecimal, kind_refusal, line_refusal}
 use Rattle.frames.specs.Hex.{number_of}
 use Rattle.frames.specs.Kinds.{all_kinds, find_kind}
-use Rattle.frames.proofs.Reading.{asked, fields_digits}
+use Rattle.terms.proofs.Answered.{asked}
+use Rattle.frames.proofs.Reading.{fields_digits}
 use Rattle.frames.proofs.Sound.{found_byte}
 use Rattle.lines.specs.declared.frame_line.FrameLine.{FrameLine}
 use Rattle.lines.specs.FrameLines.{Framed, kind_of, part_of}

@@ -2,10 +2,9 @@
 use Rattle.std.specs.Prelude.{◌≡◌, ℕ, ◌+◌, List, [], ◌∷◌, length, Some, None, Ok, Err, Option, Result, nat_le}
 use Rattle.terms.specs.declared.fault.Fault.{Fault}
 use Rattle.terms.specs.declared.layer.Layer.TheVariants.{WholeText}
-use Rattle.terms.specs.declared.refusal.Refusal.TheVariants.{TextTooLong}
-use Rattle.terms.specs.Limits.{text_limit}
-use Rattle.terms.specs.Questions.{ask, fault_of}
+use Rattle.terms.specs.Questions.{fault_of}
 use Rattle.lines.specs.Lines.{lines_of}
+use Rattle.lines.specs.Texts.{length_refusal}
 use Rattle.entries.specs.declared.intake.Intake.{Intake}
 use Rattle.entries.specs.Desks.{Desk, line_fault_lem, opened, with_line}
 use Rattle.entries.specs.Intakes.{desk_of}
@@ -32,4 +31,4 @@ ReadsTo defined (Err e) = defined ≡ Err e
 
 -- the same of a whole text: one that is too long is refused before its lines, with no line
 abbrev pub after_text : List ℕ → Result Desk LineFault
-after_text text = or_later (fault_of WholeText 0 (ask (nat_le (length text) text_limit) TextTooLong None)) 0 (after_lines 1 opened (lines_of text))
+after_text text = or_later (fault_of WholeText 0 (length_refusal text)) 0 (after_lines 1 opened (lines_of text))

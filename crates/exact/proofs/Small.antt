@@ -6,6 +6,7 @@ use Rattle.terms.specs.Limits.{security_count, amount_limit}
 use Rattle.terms.specs.Questions.{ask}
 use Rattle.terms.specs.declared.layer.Layer.TheVariants.{Deposit}
 use Rattle.terms.specs.declared.refusal.Refusal.{Refusal}
+use Rattle.terms.proofs.Answered.{asked as question_passed}
 use Rattle.terms.specs.declared.refusal.Refusal.TheVariants.{AmountTooLarge}
 use Rattle.rules.specs.declared.rows.SecurityRow.{SecurityRow}
 use Rattle.rules.specs.Rows.{Rows, Lawful, LawfulSecurity, Present}
@@ -14,6 +15,7 @@ use Rattle.rules.specs.Held.{held}
 use Rattle.rules.proofs.Sums.{sum_add, sum_const, sum_le}
 use Rattle.rules.proofs.Values.{factor_small, worth_none, exact_none}
 use Rattle.positions.specs.Questions.{row_refusal, security_refusal, security_fault, portfolio_fault}
+use Rattle.positions.proofs.Agreeing.{not_held}
 use Rattle.positions.proofs.Refusing.{all_pass, unrefused}
 use Rattle.exact.specs.Sizes.{product_limit, worth_limit}
 use Rattle.exact.specs.Classes.{share, sums_to}
@@ -24,10 +26,6 @@ fewer u q price rate l h = omega (arith, mul-le-mul_right rate (mul-le-mul_right
 
 -- ---- what the questions say of a position
 
-pass_leb : (t : Bool) (x : Refusal) → ask t x None ≡ None → t ≡ true
-pass_leb true x e = refl
-pass_leb false x e = absurd (let z : ◌≡◌ {A = ℕ} 0 1 = cc in omega arith)
-
 from_amount : (p : ℕ) → (p + 5000) / 10000 ≤ amount_limit → p ≤ product_limit
 from_amount p h = omega arith
 
@@ -35,11 +33,8 @@ product_case : (n : ℤ) (r : SecurityRow) (t : Bool) → (t ≡ false → nat_a
     nat_abs n * r.price * r.rate ≤ product_limit
 product_case n r true z e =
     from_amount (nat_abs n * r.price * r.rate)
-    (leb-true (amount (nat_abs n) r.price r.rate) amount_limit (pass_leb (leb (amount (nat_abs n) r.price r.rate) amount_limit) AmountTooLarge e))
+    (leb-true (amount (nat_abs n) r.price r.rate) amount_limit ((question_passed (leb (amount (nat_abs n) r.price r.rate) amount_limit) None AmountTooLarge e).0))
 product_case n r false z e = rw (z refl, zero-mul, zero-mul) (omega arith)
-
-not_held : (n : ℤ) → ltb 0 (nat_abs n) ≡ false → nat_abs n ≡ 0
-not_held n e = omega (arith, ltb-false 0 (nat_abs n) e)
 
 module _ (rows : Rows) (nets : ℕ → ℤ) (pass : portfolio_fault rows nets ≡ None) where
   asked : (s : ℕ) → s < security_count → security_refusal rows nets s ≡ None

@@ -13,7 +13,6 @@ use Rattle.rules.specs.Tables.{Table, rows_of}
 use Rattle.sheets.specs.Rates2020.{rates_2020}
 use Rattle.terms.specs.Limits.{booking_limit}
 use Rattle.books.specs.declared.booking.Booking.{Booking}
-use Rattle.books.specs.Books.{no_nets}
 use Rattle.tops.specs.declared.call.Call.TheVariants.{Book, Own}
 use Rattle.tops.specs.declared.call.TrialCall.TheVariants.{Commit}
 use Rattle.tops.specs.Tallies.{Tally, trial_rules, opened, decide, fed}

@@ -2,3 +2,4 @@ pub mod Framing
 pub mod Reading
 pub mod Sound
 pub mod Writes
+pub mod Valued

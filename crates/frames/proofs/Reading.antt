@@ -1,5 +1,5 @@
 -- What reading a line tells of the records of a kind. Assumes nothing.
-use Rattle.std.proofs.Common.{◌≡◌, ℕ, ◌*◌, ◌%◌, ◌<◌, ◌≤◌, Bool, true, false, ◌&&◌, eqb, leb, List, ◌++◌, length, take, drop, Some, None, Ok, Err, Option, Result, sym, refl, ap, ◌∙◌, arith, take-append-drop}
+use Rattle.std.proofs.Common.{◌≡◌, ℕ, ◌*◌, ◌%◌, ◌<◌, ◌≤◌, true, ◌&&◌, eqb, leb, List, ◌++◌, length, take, drop, Some, None, Ok, Err, Option, Result, sym, ap, ◌∙◌, arith, take-append-drop}
 use Rattle.std.proofs.ByRecursion.{All-append, All-take, All-drop}
 use Rattle.std.proofs.lemmas.List.{take_at, drop_at, length-take-le}
 use Rattle.std.proofs.lemmas.Bool.{and_parts, eq-eqb, eqb-true, leb-true}
@@ -9,6 +9,7 @@ use Rattle.terms.specs.declared.layer.Layer.TheVariants.{Frame}
 use Rattle.terms.specs.declared.refusal.Refusal.{Refusal}
 use Rattle.terms.specs.declared.refusal.Refusal.TheVariants.{NotHexadecimal, WrongLength, UnknownChoice}
 use Rattle.terms.specs.Questions.{ask, fault_of}
+use Rattle.terms.proofs.Answered.{asked}
 use Rattle.frames.specs.Fields.{text_of, numbers_of, carries, bytes}
 use Rattle.frames.specs.Frames.{Reads, choice_known, choice_lawful, digits_refusal, fields_refusal, frame_fault, hexadecimal, kind_refusal, line_of, line_refusal}
 use Rattle.frames.specs.Hex.{value_of, are_digits, number_of, digits_of}
@@ -17,11 +18,6 @@ use Rattle.frames.proofs.Framing.{is_hexadecimal}
 use Rattle.frames.specs.Numbers.{hex_from, hex_digits, hex_digits_of, length_digits_of, number_digits_of, digits_of_number}
 use Rattle.frames.proofs.Sound.{Sound}
 use Rattle.frames.specs.Texts.{numbers_text, text_numbers, carried_numbers, length_text, length_line, hex_text}
-
--- a question that is answered yes, where the call is not refused
-pub asked : {R : Type 0} (b : Bool) (o : Option R) (e : R) → ask b e o ≡ None → (b ≡ true) × (o ≡ None)
-asked true o e h = (refl, h)
-asked false o e h = let z : ◌≡◌ {A = ℕ} 0 1 = cc in absurd (omega arith)
 
 pub not_both : {R : Type 0} (o : Option R) (e : R) → o ≡ Some e → o ≡ None → ⊥
 not_both o e p q = let z : ◌≡◌ {A = ℕ} 0 1 = cc in omega arith

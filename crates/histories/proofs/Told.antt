@@ -5,6 +5,7 @@ use Rattle.std.specs.Option.{some_prefix}
 use Rattle.std.proofs.lemmas.List.{get_or-take, length-append, length-drop, length-take-le, take-append-drop}
 use Rattle.std.proofs.lemmas.Bool.{and_parts, leb-true}
 use Rattle.terms.specs.Limits.{class_count, pair_limit}
+use Rattle.terms.proofs.Answered.{asked}
 use Rattle.terms.specs.Questions.{ask}
 use Rattle.terms.specs.declared.fault.Fault.{Fault}
 use Rattle.lists.specs.declared.list.List.{List}
@@ -25,14 +26,9 @@ use Rattle.histories.specs.Demands.{Right}
 use Rattle.histories.specs.Memories.{memory_of, told_into}
 use Rattle.histories.proofs.Copies.{front}
 
--- a deposit that is not refused had room
-asked : (t : Bool) (f : Fault) (o : Option Fault) → ask t f o ≡ None → t ≡ true
-asked true f o e = refl
-asked false f o e = absurd (let z : ◌≡◌ {A = ℕ} 0 1 = cc in omega arith)
-
 pub roomy : (rows : Rows) (nets : ℕ → ℤ) (places room : ℕ) → deposit_fault rows nets places room ≡ None → (class_count ≤ places) × (pair_limit ≤ room)
 roomy rows nets places room e =
-    let both = and_parts (leb class_count places) (leb pair_limit room) (asked (leb class_count places && leb pair_limit room) _ _ e) in
+    let both = and_parts (leb class_count places) (leb pair_limit room) (asked (leb class_count places && leb pair_limit room) _ _ e).0 in
     (leb-true class_count places both.0, leb-true pair_limit room both.1)
 
 module _ (rows : Rows) (lawful : Lawful rows) (nets : ℕ → ℤ) (cs : L.List ClassMargin) (l : List Match) (ds : L.List ClassMargin) (m : List Match) (s : Summary) (d : Deposited rows nets cs l ds m s) where

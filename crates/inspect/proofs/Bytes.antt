@@ -8,7 +8,7 @@ use Rattle.terms.specs.declared.layer.Layer.TheVariants.{Frame}
 use Rattle.terms.specs.declared.refusal.Refusal.{Refusal}
 use Rattle.terms.specs.declared.refusal.Refusal.TheVariants.{NotHexadecimal}
 use Rattle.terms.specs.Questions.{fault_of}
-use Rattle.frames.proofs.Reading.{asked}
+use Rattle.terms.proofs.Answered.{asked}
 use Rattle.frames.proofs.Sound.{found, found_byte}
 use Rattle.frames.specs.Frames.{hexadecimal, kind_refusal, line_refusal}
 use Rattle.frames.specs.Hex.{number_of}

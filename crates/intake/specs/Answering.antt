@@ -3,13 +3,14 @@ use Rattle.std.specs.Prelude.{ℕ, zero, suc, cond, List, [], ◌∷◌, ◌++�
 use Rattle.terms.specs.declared.fault.Fault.{Fault}
 use Rattle.terms.specs.declared.layer.Layer.TheVariants.{WholeText}
 use Rattle.terms.specs.declared.refusal.Refusal.{Refusal}
-use Rattle.terms.specs.declared.refusal.Refusal.TheVariants.{AnswerMemoryTooShort, TextTooLong}
-use Rattle.terms.specs.Limits.{answer_memory, class_count, text_limit}
+use Rattle.terms.specs.declared.refusal.Refusal.TheVariants.{AnswerMemoryTooShort}
+use Rattle.terms.specs.Limits.{answer_memory, class_count}
 use Rattle.terms.specs.Numbers.{layer_number, refusal_number}
 use Rattle.terms.specs.Questions.{ask, answer, fault}
 use Rattle.frames.specs.Frames.{line_of}
 use Rattle.frames.specs.Kinds.{deposit_kind, fault_kind, total_kind}
 use Rattle.lines.specs.Lines.{fed, lines_of}
+use Rattle.lines.specs.Texts.{length_refusal}
 use Rattle.rules.specs.Rows.{Rows}
 use Rattle.rules.specs.Margin.{rounded, DRR, DRS, DSWK, KSPK, DOLR, DSPAN}
 use Rattle.rules.specs.Held.{held_class, securities_held, classes_held, pairs_held}
@@ -65,8 +66,7 @@ answer_bytes text = fed (text_lines text)
 abbrev pub text_refusal : List ℕ → List ℕ → Option Refusal
 text_refusal text memory =
     ask (nat_le answer_memory (length memory)) AnswerMemoryTooShort
-    (ask (nat_le (length text) text_limit) TextTooLong
-    None)
+    (length_refusal text)
 
 -- how many bytes are written, or the refusal
 abbrev pub call_answer : List ℕ → List ℕ → Result ℕ Fault
@@ -92,7 +92,7 @@ unless_long None text = text_lines text
 unless_long (Some refusal) text = fault_line (in_line 0 (fault WholeText 0 refusal)) ∷ []
 
 abbrev pub told_lines : List ℕ → List (List ℕ)
-told_lines text = unless_long (ask (nat_le (length text) text_limit) TextTooLong None) text
+told_lines text = unless_long (length_refusal text) text
 
 abbrev pub tell_answer : List ℕ → List ℕ → Result ℕ Fault
 tell_answer text memory = answer WholeText 0 (length (fed (told_lines text))) (room_refusal memory)

@@ -1,5 +1,5 @@
 // The answer to a whole text.
-ghost use Rattle.std.specs.Prelude.{◌≡◌, ◌≤◌, length, IfOk};
+ghost use Rattle.std.specs.Prelude.{◌≡◌, ◌≤◌, IfOk};
 ghost use Rattle.intake.specs.Answering.{call_answer, memory_after};
 ghost use Rattle.intake.specs.Yields.{YieldsMargin};
 ghost use Rattle.terms.specs.Limits.{answer_memory};

@@ -1,27 +1,34 @@
 -- The first line of a text and what is left after it. Assumes nothing.
-use Rattle.std.proofs.Common.{◌≡◌, ℕ, suc, ◌+◌, ◌-◌, ◌<◌, ◌≤◌, true, false, cond, eqb, List, [], ◌∷◌, length, take, drop, Some, None, not, ltb, sym, refl, ap, ◌∙◌, ⊎_elim, arith, length-drop}
+use Rattle.std.proofs.Common.{◌≡◌, ℕ, zero, suc, ◌+◌, ◌-◌, ◌<◌, ◌≤◌, Bool, true, false, cond, eqb, List, [], ◌∷◌, length, get_or, take, drop, Some, None, Option, sym, refl, ap, ◌∙◌, ⊎_elim, arith, length-drop}
 use Rattle.std.proofs.lemmas.List.{drop-drop, take_rest}
-use Rattle.std.proofs.lemmas.List.Recursion.{is_position_or_len}
-use Rattle.std.proofs.lemmas.List.Sums.{prefix_len-le-length}
-use Rattle.std.specs.List.{position, position_or_len}
 use Rattle.std.specs.Option.{unwrap_or}
-use Rattle.std.proofs.lemmas.Bool.{eq-eqb, ne_eqb, cases_eq, ltb-false}
+use Rattle.std.proofs.lemmas.Bool.{eq-eqb, ne_eqb, cases_eq}
+use Rattle.memchr.specs.Find.{IsFirstByte, is_byte}
 use Rattle.lines.specs.Lines.{first_line, after_line, before, lines_of, fed, closed}
 
--- the first line ends at the first line feed
-pub first_length : (text : List ℕ) → length (first_line text) ≡ position_or_len (λ c. eqb c 10) text
-first_length text = is_position_or_len (λ cs. length (first_line cs)) (λ c. eqb c 10) refl
-    (λ c cs. elim (eqb c 10) as (λ b. length (cond b [] (c ∷ first_line cs)) ≡ cond b 0 (1 + length (first_line cs))) [ true ↦ refl | false ↦ omega arith ]) text
+bool_false : (t : Bool) → (t ≡ true → ⊥) → t ≡ false
+bool_false true h = absurd (h refl)
+bool_false false h = refl
+
+-- a line feed with none before it ends the first line
+ends_line : (text : List ℕ) (k : ℕ) → k < length text → ((j : ℕ) → j < k → eqb (get_or text j 0) 10 ≡ true → ⊥) → eqb (get_or text k 0) 10 ≡ true → k ≡ length (first_line text)
+ends_line [] k l none is = absurd (omega arith)
+ends_line (c ∷ cs) zero l none is = ap (λ b. length (cond b [] (c ∷ first_line cs))) (sym is)
+ends_line (c ∷ cs) (suc k) l none is =
+    let later : suc k ≡ length (c ∷ first_line cs) = omega (arith, ends_line cs k (omega arith) (λ j b. none (suc j) (omega arith)) is) in
+    later ∙ ap (λ b. length (cond b [] (c ∷ first_line cs))) (sym (bool_false (eqb c 10) (none 0 (omega arith))))
+
+-- a text with no line feed is one line
+one_line : (text : List ℕ) → ((j : ℕ) → j < length text → eqb (get_or text j 0) 10 ≡ true → ⊥) → length text ≡ length (first_line text)
+one_line [] none = refl
+one_line (c ∷ cs) none =
+    let later : length (c ∷ cs) ≡ length (c ∷ first_line cs) = omega (arith, one_line cs (λ j b. none (suc j) (omega arith))) in
+    later ∙ ap (λ b. length (cond b [] (c ∷ first_line cs))) (sym (bool_false (eqb c 10) (none 0 (omega arith))))
 
 -- where one is found, it stands there, and else the text has one line
-pub found_length : (text : List ℕ) → unwrap_or (position (λ c. eqb c 10) text) (length text) ≡ length (first_line text)
-found_length text =
-    let n = position_or_len (λ c. eqb c 10) text in
-    let few : n ≤ length text = prefix_len-le-length (λ c. not (eqb c 10)) text in
-    elim (ltb n (length text)) as (λ b. ltb n (length text) ≡ b → unwrap_or (cond b (Some n) None) (length text) ≡ length (first_line text)) [
-      | true ↦ λ _. sym (first_length text)
-      | false ↦ λ past. omega (arith, ltb-false n (length text) past, first_length text)
-    ] refl
+pub found_length : (text : List ℕ) (r : Option ℕ) → IsFirstByte (is_byte 10) text r → unwrap_or r (length text) ≡ length (first_line text)
+found_length text None none = one_line text (λ j b. none j (omega arith) b)
+found_length text (Some k) found = ends_line text k found.0.high (λ j b. found.0.before j (omega arith) b) found.1
 
 -- the line is the front of the text, and what is left is the rest of it
 pub first_take : (text : List ℕ) → take (length (first_line text)) text ≡ first_line text

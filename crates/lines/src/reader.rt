@@ -4,6 +4,7 @@ ghost use Rattle.std.specs.Iterator.{MakesProgress, item_count};
 ghost use Rattle.lines.specs.Lines.{first_line, after_line, lines_of, fed, closed, rest_of, lines_left, GivesFirstLine};
 
 use crate::part::Part;
+use memchr::memchr;
 
 // A text that is read line by line.
 // Kept: a rule of the project: the line reader is a struct over the text with a cursor, and a line tells its place.
@@ -19,9 +20,7 @@ fn line_length(text: &[u8]) -> usize
     ensures is { result ≡ length (first_line text.now) }
     ensures within { result ≤ length text.now }
 {
-    text.iter()
-        .position(|code| *code == b'\n')
-        .unwrap_or(text.len())
+    memchr(b'\n', text).unwrap_or(text.len())
 }
 
 // The line of `text` that starts at `start`, and where the next one does; none where no bytes are left.

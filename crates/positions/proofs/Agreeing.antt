@@ -7,6 +7,7 @@ use Rattle.terms.specs.Limits.{security_count, amount_limit}
 use Rattle.terms.specs.Questions.{ask}
 use Rattle.terms.specs.declared.layer.Layer.TheVariants.{Deposit}
 use Rattle.terms.specs.declared.refusal.Refusal.{Refusal}
+use Rattle.terms.proofs.Answered.{asked as question_passed}
 use Rattle.terms.specs.declared.refusal.Refusal.TheVariants.{AmountTooLarge}
 use Rattle.rules.specs.declared.rows.SecurityRow.{SecurityRow}
 use Rattle.rules.specs.Laws.{value_limit}
@@ -80,18 +81,14 @@ flag_case rows n None true e = absurd (let z : ◌≡◌ {A = ℕ} 0 1 = cc in o
 flag_case rows n (Some r) true e = refl
 flag_case rows n o false e = refl
 
-pass_leb : (t : Bool) (x : Refusal) → ask t x None ≡ None → t ≡ true
-pass_leb true x e = refl
-pass_leb false x e = absurd (let z : ◌≡◌ {A = ℕ} 0 1 = cc in omega arith)
-
 small_case : (rows : Rows) (n : ℤ) (o : Option SecurityRow) (t : Bool) → (amount_of (nat_abs n) o ≤ amount_limit → worth rounded rows (nat_abs n) o ≤ value_limit) → cond t (row_refusal (nat_abs n) o) None ≡ None →
     worth_of (cond t (position_at rows n o) None) ≤ value_limit
 small_case rows n None true h e = omega arith
 small_case rows n (Some r) true h e =
-    h (leb-true (amount (nat_abs n) r.price r.rate) amount_limit (pass_leb (leb (amount (nat_abs n) r.price r.rate) amount_limit) AmountTooLarge e))
+    h (leb-true (amount (nat_abs n) r.price r.rate) amount_limit ((question_passed (leb (amount (nat_abs n) r.price r.rate) amount_limit) None AmountTooLarge e).0))
 small_case rows n o false h e = omega arith
 
-not_held : (n : ℤ) → ltb 0 (nat_abs n) ≡ false → nat_abs n ≡ 0
+pub not_held : (n : ℤ) → ltb 0 (nat_abs n) ≡ false → nat_abs n ≡ 0
 not_held n e = omega (arith, ltb-false 0 (nat_abs n) e)
 
 -- ---- all positions

@@ -1,3 +1,4 @@
 pub mod Refusing
 pub mod Summing
 pub mod Agreeing
+pub mod Tables

@@ -1,3 +1,4 @@
 pub mod Questions
 pub mod Values
+pub mod ClassSums
 pub mod Portfolios

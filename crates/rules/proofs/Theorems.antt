@@ -18,7 +18,7 @@ use Rattle.terms.specs.Limits.{security_count, duration_one}
 
 -- ---- the walk
 
-apart_pairs : (rows : Rows) → Lawful rows → Every Apart rows.pairs
+pub apart_pairs : (rows : Rows) → Lawful rows → Every Apart rows.pairs
 apart_pairs rows h = every_map (λ p l. l.apart) rows.pairs h.of_pairs
 
 pub matching : Matching

@@ -1,20 +1,14 @@
 -- The questions put to a row, each answered yes. Assumes nothing.
-use Rattle.std.proofs.Common.{◌≡◌, ℕ, ◌<◌, Bool, true, false, not, ltb, length, is_some, Some, None, Option, refl, arith}
+use Rattle.std.proofs.Common.{◌≡◌, ℕ, ◌<◌, true, not, ltb, length, is_some, Some, None, Option, refl, arith}
 use Rattle.std.proofs.lemmas.Bool.{and_parts, ltb-true}
 use Rattle.terms.specs.Limits.{security_count, class_count, pair_limit}
-use Rattle.terms.specs.Questions.{ask}
-use Rattle.terms.specs.declared.refusal.Refusal.{Refusal}
+use Rattle.terms.proofs.Answered.{asked}
 use Rattle.rules.specs.declared.rows.ClassRow.{ClassRow}
 use Rattle.rules.specs.declared.rows.SecurityRow.{SecurityRow}
 use Rattle.rules.specs.declared.rows.PairRow.{PairRow}
 use Rattle.rules.specs.Rows.{Rows}
 use Rattle.rules.specs.Tables.{has_test, class_figures, security_figures, pair_classes, pair_credit}
 use Rattle.sheets.specs.Drafts.{class_refusal, security_refusal, pair_refusal}
-
--- where all are answered yes, each is
-ask_none : (b : Bool) (refusal : Refusal) (next : Option Refusal) → ask b refusal next ≡ None → (b ≡ true) × (next ≡ None)
-ask_none true refusal next e = (refl, e)
-ask_none false refusal next e = let z : ◌≡◌ {A = ℕ} 0 1 = cc in absurd (omega arith)
 
 absent : {A : Type 0} (o : Option A) → not (is_some o) ≡ true → o ≡ None
 absent (Some a) e = let z : ◌≡◌ {A = ℕ} 0 1 = cc in absurd (omega arith)
@@ -27,9 +21,9 @@ pub record ClassAsked (rows : Rows) (class : ℕ) (row : ClassRow) : Type 0 wher
 
 pub class_asked : (rows : Rows) (class : ℕ) (row : ClassRow) → class_refusal rows class row ≡ None → ClassAsked rows class row
 class_asked rows class row e =
-    let a = ask_none _ _ _ e in
-    let b = ask_none _ _ _ a.1 in
-    let c = ask_none _ _ _ b.1 in
+    let a = asked _ _ _ e in
+    let b = asked _ _ _ a.1 in
+    let c = asked _ _ _ b.1 in
     record { number = ltb-true class class_count a.0; new = absent (rows.classes class) b.0; figures = c.0 }
 
 pub record SecurityAsked (rows : Rows) (security : ℕ) (row : SecurityRow) : Type 0 where
@@ -39,9 +33,9 @@ pub record SecurityAsked (rows : Rows) (security : ℕ) (row : SecurityRow) : Ty
 
 pub security_asked : (rows : Rows) (security : ℕ) (row : SecurityRow) → security_refusal rows security row ≡ None → SecurityAsked rows security row
 security_asked rows security row e =
-    let a = ask_none _ _ _ e in
-    let b = ask_none _ _ _ a.1 in
-    let c = ask_none _ _ _ b.1 in
+    let a = asked _ _ _ e in
+    let b = asked _ _ _ a.1 in
+    let c = asked _ _ _ b.1 in
     let n = and_parts (ltb security security_count) (not (is_some (rows.securities security))) a.0 in
     record { number = ltb-true security security_count n.0; new = absent (rows.securities security) n.1; figures = c.0 }
 
@@ -52,7 +46,7 @@ pub record PairAsked (rows : Rows) (pair : PairRow) : Type 0 where
 
 pub pair_asked : (rows : Rows) (pair : PairRow) → pair_refusal rows pair ≡ None → PairAsked rows pair
 pair_asked rows pair e =
-    let a = ask_none _ _ _ e in
-    let b = ask_none _ _ _ a.1 in
-    let c = ask_none _ _ _ b.1 in
+    let a = asked _ _ _ e in
+    let b = asked _ _ _ a.1 in
+    let c = asked _ _ _ b.1 in
     record { classes = a.0; credit = b.0; room = ltb-true (length rows.pairs) pair_limit c.0 }

@@ -1,9 +1,9 @@
 -- What the answer of a call tells of its questions. Assumes nothing.
-use Rattle.std.proofs.Common.{◌≡◌, ℕ, Some, None, Ok, Err, Option, refl, ap, arith}
+use Rattle.std.proofs.Common.{◌≡◌, ℕ, Some, None, Ok, Err, Option, refl, arith, Bool, true, false}
 use Rattle.terms.specs.declared.fault.Fault.{Fault}
 use Rattle.terms.specs.declared.layer.Layer.{Layer}
 use Rattle.terms.specs.declared.refusal.Refusal.{Refusal}
-use Rattle.terms.specs.Questions.{answer, fault}
+use Rattle.terms.specs.Questions.{ask, answer, fault}
 
 -- an accepted call: no question was answered no
 pub answer_ok : {V : Type 0} (layer : Layer) (place : ℕ) (value v : V) (questions : Option Refusal) → Ok v ≡ answer layer place value questions → questions ≡ None
@@ -16,11 +16,7 @@ pub answer_err : {V : Type 0} (layer : Layer) (place : ℕ) (value : V) (questio
 answer_err layer place value None f e = let z : ◌≡◌ {A = ℕ} 0 1 = cc in absurd (omega arith)
 answer_err layer place value (Some refusal) f e = (refusal, refl, cc)
 
-pub answer_value : {V : Type 0} (layer : Layer) (place : ℕ) (value v : V) (questions : Option Refusal) → Ok v ≡ answer layer place value questions → v ≡ value
-answer_value layer place value v None e = cc
-answer_value layer place value v (Some refusal) e = let z : ◌≡◌ {A = ℕ} 0 1 = cc in absurd (omega arith)
-
--- the same refusal, of a call with another value
-pub answer_other : {V W : Type 0} (layer : Layer) (place : ℕ) (value : V) (other : W) (questions : Option Refusal) (f : Fault) → Err f ≡ answer layer place value questions → Err f ≡ answer layer place other questions
-answer_other layer place value other None f e = let z : ◌≡◌ {A = ℕ} 0 1 = cc in absurd (omega arith)
-answer_other layer place value other (Some refusal) f e = let same : f ≡ fault layer place refusal = cc in ap Err same
+-- a question that is answered yes, where the call is not refused
+pub asked : {R : Type 0} (b : Bool) (o : Option R) (e : R) → ask b e o ≡ None → (b ≡ true) × (o ≡ None)
+asked true o e h = (refl, h)
+asked false o e h = let z : ◌≡◌ {A = ℕ} 0 1 = cc in absurd (omega arith)

@@ -12,7 +12,7 @@ class_count = 64
 abbrev pub pair_limit : ℕ
 pair_limit = 32
 
--- the most bookings of a book, and of a trial layer between two commits or drops
+-- the most bookings of a net table or a journal, and of a trial layer between two commits or drops
 abbrev pub booking_limit : ℕ
 booking_limit = 4096
 

@@ -9,7 +9,7 @@ pub const CLASSES: usize = 64;
 // The most pairs of a sheet.
 pub const PAIRS: usize = 32;
 
-// The most bookings of a book.
+// The most bookings of a net table or a journal.
 pub const BOOKINGS: usize = 4_096;
 
 // The most bookings of a trial layer between two commits or drops.

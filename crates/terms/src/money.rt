@@ -35,13 +35,24 @@ pub struct Grosz {
     grosz: u64,
 }
 
+// A quotient. Where both numbers fit 64 bits, as mostly, it is found in 64 bits, which takes far less time.
+fn quotient(n: u128, d: u128) -> u128
+    requires { 0 < d }
+    ensures { result ≡ n / d }
+{
+    match (u64::try_from(n), u64::try_from(d)) {
+        (Ok(n), Ok(d)) => u128::from(n / d),
+        _ => n / d,
+    }
+}
+
 // A division to nearest, halves up.
 fn nearest_of(n: u128, d: u128) -> u128
     requires some { 0 < d }
     requires fits { n + d / 2 < 2 ^ 128 }
     ensures { result ≡ nearest n d }
 {
-    (n + d / 2) / d
+    quotient(n + d / 2, d)
 }
 
 // A percentage of so many zloty units in grosz, to nearest.
@@ -55,7 +66,7 @@ fn part_of(percent: u32, units: u64) -> u128
 fn credit_of(percent: u32, units: u64) -> u128
     ensures { result ≡ credited percent units }
 {
-    percent as u128 * units as u128 / WHOLE_IN_GROSZ
+    quotient(percent as u128 * units as u128, WHOLE_IN_GROSZ)
 }
 
 // The number, or the largest of 64 bits.

@@ -1,6 +1,6 @@
 -- What the calls of a top do to its tally is what the rules say.
 use Rattle.std.proofs.Common.{◌≡◌, ℕ, ◌-◌, Bool, true, false, cond, eqb, ℤ, ◌+ℤ◌, ◌-ℤ◌, is_ok, sym, refl, ap, ◌∙◌, ⊎_elim, arith}
-use lib.IntN.{+ℤ_invr, +ℤ_idr}
+use lib.IntN.{+ℤ_invr}
 use Rattle.std.proofs.lemmas.Int.{ints}
 use Rattle.std.proofs.lemmas.Bool.{cases_Bool}
 use Rattle.terms.specs.declared.layer.Layer.{Layer}
@@ -11,7 +11,7 @@ use Rattle.trials.specs.declared.trial.Trial.{Trial}
 use Rattle.trials.specs.Trials.{Commits, nonzero, same_below, trial_left, trial_nets, trial_quantities}
 use Rattle.tops.specs.declared.call.Call.TheVariants.{Book, Own}
 use Rattle.tops.specs.declared.call.TrialCall.TheVariants.{Commit}
-use Rattle.tops.specs.Tallies.{Tally, bare_rules, bare_tally, decide, fed, trial_rules, trial_tally}
+use Rattle.tops.specs.Tallies.{Tally, decide, fed, trial_rules, trial_tally}
 
 same_tally : {a b c d : ℕ → ℤ} {k l m n : ℕ} → a ≡ b → c ≡ d → k ≡ l → m ≡ n → ◌≡◌ {A = Tally} (record { kept = a; trial = c; left = k; left_below = m }) (record { kept = b; trial = d; left = l; left_below = n })
 same_tally p q r s = λ i. record { kept = p i; trial = q i; left = r i; left_below = s i }
@@ -19,10 +19,6 @@ same_tally p q r s = λ i. record { kept = p i; trial = q i; left = r i; left_be
 -- kept and trial together are the layer's nets
 shown : (above below : ℕ → ℤ) → (λ s. below s +ℤ trial_quantities above below s) ≡ above
 shown above below = λ i s. (let e : below s +ℤ (above s -ℤ below s) ≡ above s = omega (arith, ints) in e) i
-
--- with nothing on trial, kept alone
-shown_bare : (nets : ℕ → ℤ) → (λ s. nets s +ℤ no_nets s) ≡ nets
-shown_bare nets = λ i s. +ℤ_idr (nets s) i
 
 -- a booking above moves one trial quantity
 either_way : (b : Bool) (a q c : ℤ) → cond b (a +ℤ q) a -ℤ c ≡ cond b ((a -ℤ c) +ℤ q) (a -ℤ c)
@@ -37,23 +33,8 @@ none_left : (nets : ℕ → ℤ) → trial_quantities nets nets ≡ no_nets
 none_left nets = λ i s. +ℤ_invr (nets s) i
 
 module _ {B : Type 0} (nets : B → ℕ → ℤ) (left : B → ℕ) (posts : B → ℕ → ℤ → B → Type 0) (layer : Layer) where
-  abbrev bare : B → Tally
-  bare b = bare_tally (nets b) (left b)
-
   abbrev laid : Trial B → Tally
   laid t = trial_tally (trial_nets t) (trial_left t) (nets t.below) (left t.below)
-
-  pub bare_booking : (before after : B) (b : Booking) (r : Answer) → Books nets left posts layer before b.security b.quantity r after
-      → (r ≡ decide (bare_rules layer) (bare before) (Book b)) × (bare after ≡ fed (bare_rules layer) (bare before) (Book b) (is_ok r))
-  bare_booking before after b r h = (
-    h.decided ∙ ap (λ n. booking_answer layer n (left before) b.security b.quantity) (sym (shown_bare (nets before))),
-    ⊎_elim
-        (λ ok.
-        let spent : left after ≡ left before - 1 = omega (arith, h.spent ok) in
-        same_tally (h.moved ok) refl spent refl ∙ ap (fed (bare_rules layer) (bare before) (Book b)) (sym ok))
-        (λ err. ap bare (h.refused err) ∙ ap (fed (bare_rules layer) (bare before) (Book b)) (sym err))
-        (cases_Bool (is_ok r)),
-  )
 
   pub trial_booking : (before after : Trial B) (b : Booking) (r : Answer) → Books trial_nets trial_left same_below layers.Trial before b.security b.quantity r after
       → (r ≡ decide trial_rules (laid before) (Book b)) × (laid after ≡ fed trial_rules (laid before) (Book b) (is_ok r))

@@ -1,6 +1,5 @@
 -- Counts over the securities, and quantities that are 0.
 use Rattle.std.proofs.Common.{◌≡◌, ℕ, zero, suc, ◌+◌, ◌≤◌, Bool, true, false, cond, [], ◌∷◌, ◌++◌, length, ℤ, pos, ◌-ℤ◌, nat_abs, sym, refl, ap, ◌∙◌, subst, ⊎_elim, add-one, arith, length-append, w64, SFits, to_z, of_z}
-use lib.IntN.{+ℤ_invr}
 use Rattle.std.proofs.lemmas.Int.{ints, to_z-of_z}
 use Rattle.std.proofs.lemmas.Bool.{cases_lt, cases_Bool, eqb-true}
 use Rattle.std.proofs.lemmas.List.{map-id}
@@ -27,14 +26,6 @@ count_one test n e = count_next test n ∙ ap (λ b. count test n + cond b 1 0) 
 pub count_same : (test : ℕ → Bool) (n : ℕ) → test n ≡ false → count test (n + 1) ≡ count test n
 count_same test n e = let h = ap (λ b. count test n + cond b 1 0) e in omega (arith, count_next test n, h)
 
-one_or_none : (b : Bool) → cond b 1 0 ≤ 1
-one_or_none true = omega arith
-one_or_none false = omega arith
-
-pub count_le : (test : ℕ → Bool) (n : ℕ) → count test n ≤ n
-count_le test zero = omega (arith, count_none test)
-count_le test (suc n) = omega (arith, count_le test n, count_suc test n, one_or_none (test n))
-
 -- a longer walk counts no less
 pub count_rises : (test : ℕ → Bool) (m n : ℕ) → m ≤ n → count test m ≤ count test n
 count_rises test m zero h = let e : m ≡ 0 = omega arith in subst (λ k. count test k ≤ count test 0) (sym e) (omega arith)
@@ -47,9 +38,6 @@ count_rises test m (suc n) h =
 -- 0 is the only number that is 0
 pub zero_is : (z : ℤ) → is_zero z ≡ true → z ≡ pos 0
 zero_is z e = let h = eqb-true (nat_abs z) 0 e in omega (arith, ints)
-
-pub no_difference : (a b : ℤ) → a ≡ b → is_zero (a -ℤ b) ≡ true
-no_difference a b e = ap is_zero (ap (λ x. x -ℤ b) e ∙ +ℤ_invr b)
 
 pub difference : (a b : ℤ) → (a ≡ b → ⊥) → is_zero (a -ℤ b) ≡ false
 difference a b ne =

@@ -1,6 +1,6 @@
 // Opening, reading and booking.
 ghost use Rattle.std.specs.Prelude.{◌≡◌, min, [], length};
-ghost use Rattle.books.specs.Books.{Books, no_nets};
+ghost use Rattle.books.specs.Books.{no_nets};
 ghost use Rattle.books.specs.Journals.{journal_absent, journal_left, journal_limited, journal_nets, journal_posts};
 ghost use Rattle.books.specs.Totals.{share, total};
 ghost use Rattle.lists.specs.Lists.{items, lender, memory};

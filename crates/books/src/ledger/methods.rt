@@ -36,7 +36,8 @@ impl Ledger {
 
     // The nets of a book, with no booking left.
     fn with_nets_of<B: Positions>(book: &B) -> Self
-        ensures { ledger_nets result ≡ B.Positions.nets book.now }
+        ensures nets { ledger_nets result ≡ B.Positions.nets book.now }
+        ensures left { ledger_left result ≡ 0 }
     {
         let nets = array::from_fn(|security| net_of(book, security as u16));
         Ledger { nets, left: 0 }

@@ -1,5 +1,5 @@
 // Opening, appending, clearing, counting and reading.
-ghost use Rattle.std.specs.Prelude.{◌≡◌, ℕ, ◌+◌, ◌<◌, ◌≤◌, [], ◌∷◌, ◌++◌, length, take, slice_set};
+ghost use Rattle.std.specs.Prelude.{◌≡◌, ℕ, ◌+◌, ◌<◌, [], ◌∷◌, ◌++◌, length, take, slice_set};
 ghost use Rattle.lists.specs.Lists.{items, lender, memory, Appends, Cleared, Reads};
 
 use super::{List, NO_SUCH_PLACE};

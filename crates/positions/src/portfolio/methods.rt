@@ -7,6 +7,7 @@ ghost use Rattle.terms.specs.Limits.{security_count};
 
 use super::Portfolio;
 use crate::sums::{count_in, count_of, sums_of};
+use crate::table::class_sums_of;
 use crate::value::positions;
 use books::book::Positions;
 use sheets::sheet::Sheet;
@@ -20,24 +21,32 @@ impl Portfolio {
         ensures { Opens (S.Sheet.rows sheet.now) (P.Positions.nets book.now) result }
     {
         let all = positions(book, sheet)?;
-        Ok(Portfolio { all })
+        let sums = class_sums_of(&all);
+        Ok(Portfolio { all, sums })
     }
 
     // The bought and the sold sum of a class, PK and PS.
     // Kept: a rule of the project: a class is summed up as the pair (PK, PS).
+    // Kept: any number may be asked, so that one past the table is summed by itself.
     pub fn class_sums(&self, class: u16) -> (Zloty, Zloty)
         ensures bought { result.0.units ≡ bought_in (positions_of self.now) class security_count }
         ensures sold { result.1.units ≡ sold_in (positions_of self.now) class security_count }
         ensures small { result.0.units + result.1.units ≤ sum_limit }
     {
-        sums_of(&self.all, class)
+        match self.sums.get(class as usize) {
+            Some(sum) => (sum.bought, sum.sold),
+            None => sums_of(&self.all, class),
+        }
     }
 
     // How many securities of a class are held.
     pub fn held_in(&self, class: u16) -> u16
         ensures { result ≡ count_in_lem (positions_of self.now) class security_count }
     {
-        count_in(&self.all, class)
+        match self.sums.get(class as usize) {
+            Some(sum) => sum.held,
+            None => count_in(&self.all, class),
+        }
     }
 
     // How many securities are held, N.

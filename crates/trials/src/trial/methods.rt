@@ -1,7 +1,6 @@
 // Opening, booking, committing and dropping.
 ghost use Rattle.std.specs.Prelude.{◌≡◌, ◌+◌, ◌≤◌};
-ghost use Rattle.books.specs.Books.{Books};
-ghost use Rattle.books.specs.Ledgers.{ledger_absent, ledger_limited, ledger_nets};
+ghost use Rattle.books.specs.Ledgers.{ledger_absent, ledger_limited};
 ghost use Rattle.terms.specs.Limits.{security_count, trial_limit};
 ghost use Rattle.terms.specs.declared.layer.Layer.TheVariants as layers;
 ghost use Rattle.trials.specs.Trials.{Commits, Taken, moves, nonzero, postings, same_below, trial_left, trial_nets, trial_quantities};

@@ -1,6 +1,6 @@
 use Rattle.std.proofs.Common.{subst}
 use Rattle.entries.specs.Intakes.{table_nets}
-use Rattle.frames.proofs.Reading.{asked}
+use Rattle.terms.proofs.Answered.{asked}
 use Rattle.positions.specs.Questions.{portfolio_fault}
 use Rattle.sheets.specs.Sheets.{sheet_rows}
 use Rattle.intake.specs.Filling.{Fills, Stands}

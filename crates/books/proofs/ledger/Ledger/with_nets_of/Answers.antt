@@ -1,4 +1,4 @@
-use Rattle.std.proofs.Common.{◌≡◌, ℕ, ◌<◌, ◌≤◌, get_or, pos, sym, ◌∙◌, subst, ⊎_elim, arith, rules}
+use Rattle.std.proofs.Common.{◌≡◌, ℕ, ◌<◌, ◌≤◌, get_or, pos, sym, refl, ◌∙◌, subst, ⊎_elim, arith, rules}
 use Rattle.std.proofs.lemmas.Bool.{cases_lt}
 use Rattle.std.proofs.lemmas.List.{get_or_past}
 use Rattle.terms.specs.Limits.{net_limit, security_count}
@@ -23,4 +23,4 @@ invariant_of-result g c =
     record { long = c.from_fn-nets.ensures.items.long; limited = λ s. subst (Within net_limit) (sym (copied g c s)) (g.B.Positions.limited c.args.book.now s) }
 
 pub returns : goal.returns
-returns g c = λ j s. copied g (goal.at.returns g c).After-from_fn-nets s j
+returns g c = record { nets = λ j s. copied g (goal.at.returns g c).After-from_fn-nets s j; left = refl }

@@ -1,0 +1,7 @@
+use Rattle.std.proofs.Common.{◌≡◌, length}
+use Rattle.positions.specs.ClassSums.{Summed}
+use Rattle.terms.specs.Limits.{class_count}
+use Rattle.positions.proofs.table.class_sums_of.Given as goal
+
+abbrev pub invariant-loop-position : goal.invariant-loop-position
+invariant-loop-position l = (length l.sums ≡ class_count) × Summed l.all l.position-index l.sums
