@@ -165,7 +165,19 @@ pub fn any(random: &mut Random) -> Vec<u8> {
             let length = random.below(200) as usize;
             text = (0..length).map(|_| random.below(256) as u8).collect();
         }
+        4 if random.one_in(30) => text = as_many_as_a_book_takes(random),
         _ => {}
+    }
+    text
+}
+
+/// One class and one security, and about as many bookings as a book takes, of a few units each.
+fn as_many_as_a_book_takes(random: &mut Random) -> Vec<u8> {
+    let mut text = Vec::new();
+    line(&mut text, 0x43, &[(0, 1), (1, 1), (590, 3), (150, 3), (0, 3)]);
+    line(&mut text, 0x53, &[(0, 1), (0, 1), (10_518_200, 4), (10_000, 3), (1_000_000, 4)]);
+    for _ in 0..4_090 + random.below(14) {
+        line(&mut text, 0x42, &[(0, 1), (1 + random.below(2), 1), (1 + random.below(9), 4)]);
     }
     text
 }

@@ -16,7 +16,7 @@ use Rattle.rules.specs.Held.{held, held_in, held_class, both_held, count_pairs, 
 use Rattle.rules.specs.Laws.{Matched, Matching, sum_limit, deposit_limit}
 use Rattle.rules.proofs.Parts.{nat_abs_is}
 use Rattle.rules.proofs.Sums.{sum_same, sum_zero}
-use Rattle.rules.proofs.Walk.{Apart, Below, Agree, credits_agree, leftovers_agree, matches_agree, every_map, walk_shrinks}
+use Rattle.rules.proofs.Walk.{Agree, credits_agree, leftovers_agree, matches_agree, every_map, walk_shrinks}
 use Rattle.rules.proofs.Theorems.{apart_pairs, credits_within, matching}
 use Rattle.rules.proofs.Classes.{abs_minus, figure_small, nothing}
 use Rattle.rules.proofs.Fits.{part_small, parts_small}
@@ -32,16 +32,13 @@ use Rattle.deposits.specs.declared.records.Match.{Match}
 use Rattle.deposits.specs.Told.{gr, none, told, told_by}
 use Rattle.deposits.specs.Records.{opened, opened_by, left_of, walked, closed, Owing, held_flag, both_flagged}
 use Rattle.deposits.specs.Deposits.{Margin, left_told}
-use Rattle.deposits.proofs.Walking.{sounds}
+use Rattle.deposits.proofs.Walking.{below, sounds}
 
 part_none : (y : ℕ) → rounded.part y 0 ≡ 0
 part_none y = omega arith
 
 difference : (r k x w o : ℕ) → k ≤ r → o ≡ r - k + x + w → pos o ≡ pos (r + x + w) -ℤ pos k
 difference r k x w o h e = omega (arith, ints)
-
-below : (rows : Rows) → Lawful rows → Every (Below class_count) rows.pairs
-below rows h = every_map (λ p s. record { one = s.one; other = s.other; apart = s.apart }) rows.pairs (sounds rows h)
 
 -- ---- a class that is not held
 

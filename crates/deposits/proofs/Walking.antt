@@ -11,7 +11,7 @@ use Rattle.rules.specs.Rows.{Rows, Lawful, LawfulPair, Every}
 use Rattle.rules.specs.Margin.{Rounding, rounded, match_of, matched, of_pair, step, leftovers, credits, towards}
 use Rattle.rules.specs.Held.{count_pairs}
 use Rattle.rules.proofs.Parts.{nat_abs_is}
-use Rattle.rules.proofs.Walk.{walk_shrinks, every_map, step_first, step_second, step_else}
+use Rattle.rules.proofs.Walk.{Below, walk_shrinks, every_map, step_first, step_second, step_else}
 use Rattle.rules.proofs.Credit.{Capped, every_apart, credits_capped}
 use Rattle.rules.proofs.Runs.{PairLawful}
 use Rattle.rules.proofs.Accuracy.{lawful_pair}
@@ -56,6 +56,9 @@ sound rows h p l = let q : PairLawful p = lawful_pair rows h p l in record { one
 
 pub sounds : (rows : Rows) → Lawful rows → Every Sound rows.pairs
 sounds rows h = every_map (sound rows h) rows.pairs h.of_pairs
+
+pub below : (rows : Rows) → Lawful rows → Every (Below class_count) rows.pairs
+below rows h = every_map (λ p s. record { one = s.one; other = s.other; apart = s.apart }) rows.pairs (sounds rows h)
 
 capped : (ps : List PairRow) → Every Sound ps → Every (Capped (λ c. whole)) ps
 capped ps h = every_map (λ p s. record { apart = s.apart; cap = λ c t. s.small }) ps h

@@ -1,3 +1,3 @@
 pub mod Bringing
 mod Moving
-mod Taking
+pub mod Taking

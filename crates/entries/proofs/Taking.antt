@@ -26,22 +26,27 @@ use Rattle.entries.specs.Intakes.{Adds, Posts, TakesLine, desk_of}
 
 module _ (line : List ℕ) (at : ℕ) (frame other : FrameLine) (framed : Framed line at frame) (same : frame ≡ other) where
   -- its fields pass every question
-  pub fields_pass : digits_refusal (kind_of other) (part_of other).digits.now ≡ None
+  pub fields_pass : digits_refusal (kind_of other) (part_of other).digits.text.now ≡ None
   fields_pass =
       let byte = number_of (take 2 line) in
       let passed = asked (hexadecimal line) (kind_refusal (find_kind all_kinds byte) (drop 2 line)) NotHexadecimal framed.passes in
       let kinds : fields_refusal (kind_of frame) (drop 2 line) ≡ None = sym (ap (λ o. kind_refusal o (drop 2 line)) framed.kind) ∙ passed.1 in
       let digits : digits_refusal (kind_of frame) (drop 2 line) ≡ None = ap (λ b. ask b NotHexadecimal (fields_refusal (kind_of frame) (drop 2 line))) (fields_digits line passed.0) ∙ kinds in
-      sym (ap (λ f. digits_refusal (kind_of f) (part_of f).digits.now) same) ∙ ap (digits_refusal (kind_of frame)) framed.fields ∙ digits
+      sym (ap (λ f. digits_refusal (kind_of f) (part_of f).digits.text.now) same) ∙ ap (digits_refusal (kind_of frame)) framed.fields ∙ digits
 
   -- and say what the line brings
-  pub frame_brings : entry_of line ≡ brought (kind_of other).byte (part_of other).digits.now
+  pub frame_brings : entry_of line ≡ brought (kind_of other).byte (part_of other).digits.text.now
   frame_brings =
       ap (λ b. brought b (drop 2 line)) (found_byte all_kinds (number_of (take 2 line)) (kind_of frame) framed.kind)
       ∙ ap (brought (kind_of frame).byte) (sym framed.fields)
-      ∙ ap (λ f. brought (kind_of f).byte (part_of f).digits.now) same
+      ∙ ap (λ f. brought (kind_of f).byte (part_of f).digits.text.now) same
 
 -- ---- what an intake does with it
+
+-- a booking is in order at any stage
+pub always : (s : Stage) (security : ℕ) (quantity : ℤ) → in_order s (booking_entry security quantity) ≡ true
+always Rows security quantity = refl
+always Bookings security quantity = refl
 
 module _ (i : Intake) (line : List ℕ) (passes : line_refusal all_kinds line ≡ None) where
   abbrev d : Desk
@@ -59,11 +64,7 @@ module _ (i : Intake) (line : List ℕ) (passes : line_refusal all_kinds line �
     moved = λ ok. (λ j. record { stage = i.stage; rows = adds.moved ok j; nets = d.nets; left = d.left }) ∙ sym (ap (with_brought d) is);
   }
 
-  -- a booking goes to the book, at any stage
-  always : (s : Stage) (security : ℕ) (quantity : ℤ) → in_order s (booking_entry security quantity) ≡ true
-  always Rows security quantity = refl
-  always Bookings security quantity = refl
-
+  -- a booking goes to the book
   module _ (security : ℕ) (quantity : ℤ) (is : entry_of line ≡ Some (booking_entry security quantity)) where
     books : line_fault_lem d line ≡ booking_fault d.nets d.left security quantity
     books = brings (Some (booking_entry security quantity)) is ∙ ap (λ b. ask b out_of_order (booking_fault d.nets d.left security quantity)) (always i.stage security quantity)

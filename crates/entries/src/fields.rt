@@ -10,6 +10,7 @@ use books::book::Book;
 use books::booking::Booking;
 use books::table::NetTable;
 use frames::codec::read_fields;
+use frames::digits::Digits;
 use frames::kinds::{BookingFrame, ClassFrame, PairFrame, SecurityFrame};
 use rules::rows::{ClassRow, PairRow, SecurityRow};
 use sheets::draft::Draft;
@@ -18,9 +19,9 @@ use terms::fault::Fault;
 // Adds the class row with these fields.
 // Kept: record and row are of other crates, so a From would need a type around one; a trait over add_class, add_security and
 // add_pair is no plainer: three impls with a definition each, for three bodies of a literal and a call.
-pub(crate) fn add_class(draft: &mut Draft, fields: &[u8]) -> Result<(), Fault>
-    requires { digits_refusal class_kind fields.now ≡ Nothing }
-    ensures { Adds (listed_class (numbers_of class_kind.widths fields.now)) draft.old result draft.new }
+pub(crate) fn add_class(draft: &mut Draft, fields: Digits<'_>) -> Result<(), Fault>
+    requires { digits_refusal class_kind fields.text.now ≡ Nothing }
+    ensures { Adds (listed_class (numbers_of class_kind.widths fields.entry.text.now)) draft.old result draft.new }
 {
     let item = read_fields::<ClassFrame>(fields)?;
     let row = ClassRow {
@@ -33,9 +34,9 @@ pub(crate) fn add_class(draft: &mut Draft, fields: &[u8]) -> Result<(), Fault>
 }
 
 // Adds the security row with these fields.
-pub(crate) fn add_security(draft: &mut Draft, fields: &[u8]) -> Result<(), Fault>
-    requires { digits_refusal security_kind fields.now ≡ Nothing }
-    ensures { Adds (listed_security (numbers_of security_kind.widths fields.now)) draft.old result draft.new }
+pub(crate) fn add_security(draft: &mut Draft, fields: Digits<'_>) -> Result<(), Fault>
+    requires { digits_refusal security_kind fields.text.now ≡ Nothing }
+    ensures { Adds (listed_security (numbers_of security_kind.widths fields.entry.text.now)) draft.old result draft.new }
 {
     let item = read_fields::<SecurityFrame>(fields)?;
     let row = SecurityRow {
@@ -48,9 +49,9 @@ pub(crate) fn add_security(draft: &mut Draft, fields: &[u8]) -> Result<(), Fault
 }
 
 // Adds the pair with these fields.
-pub(crate) fn add_pair(draft: &mut Draft, fields: &[u8]) -> Result<(), Fault>
-    requires { digits_refusal pair_kind fields.now ≡ Nothing }
-    ensures { Adds (listed_pair (numbers_of pair_kind.widths fields.now)) draft.old result draft.new }
+pub(crate) fn add_pair(draft: &mut Draft, fields: Digits<'_>) -> Result<(), Fault>
+    requires { digits_refusal pair_kind fields.text.now ≡ Nothing }
+    ensures { Adds (listed_pair (numbers_of pair_kind.widths fields.entry.text.now)) draft.old result draft.new }
 {
     let item = read_fields::<PairFrame>(fields)?;
     let row = PairRow {
@@ -63,9 +64,9 @@ pub(crate) fn add_pair(draft: &mut Draft, fields: &[u8]) -> Result<(), Fault>
 
 // Books the quantity of these fields, signed by their side.
 // Kept: record and booking are of other crates, so a From would need a type around one.
-pub(crate) fn book(table: &mut NetTable, fields: &[u8]) -> Result<(), Fault>
-    requires { digits_refusal booking_kind fields.now ≡ Nothing }
-    ensures { Posts (slice_index (numbers_of booking_kind.widths fields.now) 0) (quantity_of (numbers_of booking_kind.widths fields.now)) table.old result table.new }
+pub(crate) fn book(table: &mut NetTable, fields: Digits<'_>) -> Result<(), Fault>
+    requires { digits_refusal booking_kind fields.text.now ≡ Nothing }
+    ensures { Posts (slice_index (numbers_of booking_kind.widths fields.entry.text.now) 0) (quantity_of (numbers_of booking_kind.widths fields.entry.text.now)) table.old result table.new }
 {
     let item = read_fields::<BookingFrame>(fields)?;
     table.book(Booking {

@@ -1,11 +1,9 @@
 -- The exact values and sums are small where no amount is above its limit. Assumes nothing.
-use Rattle.std.proofs.Common.{◌≡◌, ℕ, suc, ◌+◌, ◌*◌, ◌/◌, ◌<◌, ◌≤◌, Bool, true, false, cond, ltb, leb, ℤ, pos, negsuc, nat_abs, Some, None, Option, refl, subst, mul-le-mul_right, mul-le-mul, zero-mul, arith}
+use Rattle.std.proofs.Common.{◌≡◌, ℕ, suc, ◌+◌, ◌*◌, ◌/◌, ◌<◌, ◌≤◌, Bool, true, false, cond, leb, ℤ, pos, negsuc, nat_abs, Some, None, Option, refl, subst, mul-le-mul_right, mul-le-mul, zero-mul, arith}
 use borrow.Author.Differences.{up, down}
-use Rattle.std.proofs.lemmas.Bool.{leb-true, ltb-false}
+use Rattle.std.proofs.lemmas.Bool.{leb-true}
 use Rattle.terms.specs.Limits.{security_count, amount_limit}
-use Rattle.terms.specs.Questions.{ask}
 use Rattle.terms.specs.declared.layer.Layer.TheVariants.{Deposit}
-use Rattle.terms.specs.declared.refusal.Refusal.{Refusal}
 use Rattle.terms.proofs.Answered.{asked as question_passed}
 use Rattle.terms.specs.declared.refusal.Refusal.TheVariants.{AmountTooLarge}
 use Rattle.rules.specs.declared.rows.SecurityRow.{SecurityRow}

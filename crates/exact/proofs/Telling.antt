@@ -2,13 +2,13 @@
 use Rattle.std.proofs.Common.{◌≡◌, ℕ, zero, suc, ◌+◌, ◌<◌, ◌≤◌, min, List, get_or, ℤ, pos, ◌+ℤ◌, ◌-ℤ◌, nat_abs, None, sym, refl, ap, ◌∙◌, subst, ap₂, mul-le-mul, arith}
 use Rattle.terms.specs.Limits.{security_count, class_count}
 use Rattle.rules.specs.Sums.{sum_belowℤ}
-use Rattle.rules.specs.Rows.{Rows, Lawful, Every}
+use Rattle.rules.specs.Rows.{Rows, Lawful}
 use Rattle.rules.specs.Margin.{exact, bought, sold, value_in, net_value, KSPK, DOLR, DSPAN}
 use Rattle.rules.proofs.Classes.{abs_minus, figure_small}
-use Rattle.rules.proofs.Walk.{Below, Agree, credits_agree, every_map}
+use Rattle.rules.proofs.Walk.{Agree, credits_agree}
 use Rattle.sheets.specs.Readings.{rates_in}
 use Rattle.positions.specs.Questions.{portfolio_fault}
-use Rattle.deposits.proofs.Walking.{sounds}
+use Rattle.deposits.proofs.Walking.{below, sounds}
 use Rattle.exact.specs.declared.records.Class.{Class}
 use Rattle.exact.specs.declared.records.Sums.{Sums}
 use Rattle.exact.specs.Sizes.{worths_limit, owed_limit}
@@ -26,9 +26,6 @@ sumℤ_same (suc n) f g h = ap₂ ◌+ℤ◌ (sumℤ_same n f g (λ i l. h i (om
 all_summed : (rows : Rows) (nets : ℕ → ℤ) (c : ℕ) → sums_to rows nets security_count c ≡ record { bought = bought exact rows nets c; sold = sold exact rows nets c }
 unfolding value_in
 all_summed rows nets c = refl
-
-below : (rows : Rows) → Lawful rows → Every (Below class_count) rows.pairs
-below rows h = every_map (λ p s. record { one = s.one; other = s.other; apart = s.apart }) rows.pairs (sounds rows h)
 
 -- the parts of a class whose sums are small
 pub risk_small : (rows : Rows) → Lawful rows → (c : ℕ) (s : Sums) → s.bought + s.sold ≤ worths_limit → risk_by (rates_in (rows.classes c)) s ≤ owed_limit

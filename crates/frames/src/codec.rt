@@ -10,6 +10,7 @@ ghost use Rattle.frames.specs.Frames.{Reads, digits_refusal, fields_refusal, fra
 ghost use Rattle.frames.specs.Hex.{are_digits, number_of};
 ghost use Rattle.frames.specs.Written.{written, written_answer};
 
+use crate::digits::Digits;
 use crate::frame::{Frame, MOST_FIELDS};
 use crate::hex::{all_digits, byte, number, write_number};
 use arrayvec::ArrayVec;
@@ -20,8 +21,8 @@ use terms::refusal::Refusal;
 
 // The kind byte of a hexadecimal line, and the digits of its fields.
 // Kept: no plainer: 30 alone is asked here, so that the byte may be no kind's; the enum of the kinds is `FrameLine`.
-pub fn split(line: &[u8]) -> Result<(u8, &[u8]), Fault>
-    ensures { MatchResult result (λ p. (hexadecimal line.now ≡ true) × (p.0 ≡ number_of (take 2 line.now)) × (p.1.now ≡ drop 2 line.now)) (λ f. (hexadecimal line.now ≡ false) × (f ≡ frame_fault NotHexadecimal)) }
+pub fn split(line: &[u8]) -> Result<(u8, Digits<'_>), Fault>
+    ensures { MatchResult result (λ p. (hexadecimal line.now ≡ true) × (p.0 ≡ number_of (take 2 line.now)) × (p.1.text.now ≡ drop 2 line.now)) (λ f. (hexadecimal line.now ≡ false) × (f ≡ frame_fault NotHexadecimal)) }
 {
     if line.len() % 2 != 0 || !all_digits(line) {
         return Err(Layer::Frame.fault(0, Refusal::NotHexadecimal));
@@ -29,7 +30,7 @@ pub fn split(line: &[u8]) -> Result<(u8, &[u8]), Fault>
     let [high, low, fields @ ..] = line else {
         return Err(Layer::Frame.fault(0, Refusal::NotHexadecimal));
     };
-    Ok((byte(*high, *low) as u8, fields))
+    Ok((byte(*high, *low) as u8, Digits { text: fields }))
 }
 
 // Whether the second byte of these fields is one of the two choices.
@@ -87,12 +88,10 @@ fn record<F: Frame>(fields: &[u8]) -> Option<F::Record>
 }
 
 // The record whose fields these are.
-pub fn read_fields<F: Frame>(fields: &[u8]) -> Result<F::Record, Fault>
-    ensures { Reads (λ x. text_of F.kind.widths (F.figures x)) (digits_refusal F.kind fields.now) fields.now result }
+pub fn read_fields<F: Frame>(digits: Digits<'_>) -> Result<F::Record, Fault>
+    ensures { Reads (λ x. text_of F.kind.widths (F.figures x)) (digits_refusal F.kind digits.entry.text.now) digits.entry.text.now result }
 {
-    if !all_digits(fields) {
-        return Err(Layer::Frame.fault(0, Refusal::NotHexadecimal));
-    }
+    let fields = digits.text;
     check::<F>(fields)?;
     Ok(record::<F>(fields).unwrap())
 }
@@ -101,11 +100,11 @@ pub fn read_fields<F: Frame>(fields: &[u8]) -> Result<F::Record, Fault>
 pub fn read<F: Frame>(line: &[u8]) -> Result<F::Record, Fault>
     ensures { Reads (λ x. line_of F.kind (F.figures x)) (line_refusal (F.kind ∷ []) line.now) line.now result }
 {
-    let (kind, fields) = split(line)?;
+    let (kind, digits) = split(line)?;
     if kind != F::KIND {
         return Err(Layer::Frame.fault(0, Refusal::UnknownKind));
     }
-    read_fields::<F>(fields)
+    read_fields::<F>(digits)
 }
 
 // Fills `line` with the digits of these numbers in fields of these widths.

@@ -2,6 +2,7 @@
 #![tactic(auto)]
 
 pub mod codec;
+pub mod digits;
 pub mod frame;
 mod hex;
 pub mod kinds;

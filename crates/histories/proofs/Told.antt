@@ -1,13 +1,11 @@
 -- What a deposit wrote, copied out of the memory, is told right. Assumes nothing.
-use Rattle.std.proofs.Common.{◌≡◌, ℕ, ◌≤◌, Bool, true, false, ◌&&◌, leb, ◌++◌, map, length, take, drop, ℤ, ◌≤ℤ◌, None, Ok, Option, sym, refl, ap, ◌∙◌, subst, arith}
+use Rattle.std.proofs.Common.{◌≡◌, ℕ, ◌≤◌, ◌&&◌, leb, ◌++◌, map, length, take, drop, ℤ, ◌≤ℤ◌, None, Ok, sym, ap, ◌∙◌, subst, arith}
 use mathlib.Core.List as L
 use Rattle.std.specs.Option.{some_prefix}
 use Rattle.std.proofs.lemmas.List.{get_or-take, length-append, length-drop, length-take-le, take-append-drop}
 use Rattle.std.proofs.lemmas.Bool.{and_parts, leb-true}
 use Rattle.terms.specs.Limits.{class_count, pair_limit}
 use Rattle.terms.proofs.Answered.{asked}
-use Rattle.terms.specs.Questions.{ask}
-use Rattle.terms.specs.declared.fault.Fault.{Fault}
 use Rattle.lists.specs.declared.list.List.{List}
 use Rattle.lists.specs.Lists.{items, memory}
 use Rattle.rules.specs.Rows.{Rows, Lawful}

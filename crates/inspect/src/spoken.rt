@@ -8,7 +8,7 @@ use frames::record::{
     BookingRecord, ClassRecord, DepositRecord, FaultRecord, PairRecord, SecurityRecord, TotalRecord,
 };
 use lines::frame_line::FrameLine;
-use lines::part::Part;
+use lines::part::Fields;
 use std::fmt;
 use terms::fault::Fault;
 use terms::layer::Layer;
@@ -115,7 +115,7 @@ impl fmt::Display for Words<FaultRecord> {
 pub struct Spoken<'a>(pub FrameLine<'a>);
 
 // What the fields of a frame of one kind say.
-fn words_of<F: Frame>(part: Part<'_>) -> Result<Words<F::Record>, Fault> {
+fn words_of<F: Frame>(part: Fields<'_>) -> Result<Words<F::Record>, Fault> {
     Ok(Words(read_fields::<F>(part.digits)?))
 }
 

@@ -1,5 +1,5 @@
 -- The lines of accepted records are taken one after the other. Assumes nothing.
-use Rattle.std.proofs.Common.{◌≡◌, ℕ, ◌+◌, ◌-◌, true, List, [], ◌∷◌, ◌++◌, map, length, ℤ, Some, None, Ok, sym, refl, ap, ◌∙◌, subst, arith}
+use Rattle.std.proofs.Common.{◌≡◌, ℕ, ◌+◌, ◌-◌, List, [], ◌∷◌, ◌++◌, map, length, ℤ, Some, None, Ok, sym, refl, ap, ◌∙◌, subst, arith}
 use Rattle.std.proofs.lemmas.List.{append-nil, append_assoc, length_push}
 use Rattle.terms.specs.declared.layer.Layer.TheVariants.{Frame, Sheet, Book}
 use Rattle.terms.specs.Limits.{booking_limit}
@@ -13,10 +13,11 @@ use Rattle.books.specs.Books.{booking_refusal, no_nets}
 use Rattle.positions.specs.Questions.{or_else}
 use Rattle.entries.specs.declared.intake.Stage.{Stage}
 use Rattle.entries.specs.declared.intake.Stage.TheVariants.{Rows as InRows, Bookings as InBookings}
-use Rattle.entries.specs.Desks.{Desk, entry_fault, in_order, line_fault_lem, out_of_order, row_fault, with_brought, with_line}
+use Rattle.entries.specs.Desks.{Desk, entry_fault, line_fault_lem, out_of_order, row_fault, with_brought, with_line}
 use Rattle.entries.specs.Entries.{Entry, booking_entry, entry_of, row_entry}
 use Rattle.intake.specs.Listings.{RowRecord, class_record, security_record, pair_record, row_frame, booking_frame, row_refusal, sheet_of, nets_of, RowsAccepted, BookingsAccepted}
 use Rattle.entries.specs.Reading.{after_lines, or_later}
+use Rattle.entries.proofs.Taking.{always}
 use Rattle.intake.proofs.Framed.{row_passes, row_brings, booking_passes, booking_brings}
 use Rattle.intake.proofs.Listed.{row_of, sheet_push, lawful_push, nets_push}
 
@@ -66,10 +67,6 @@ rows_lawful before (item ∷ items) accepted l =
 -- the desk with these rows and these bookings
 abbrev pub with_bookings : Stage → Rows → List BookingRecord → Desk
 with_bookings stage rows bookings = record { stage = stage; rows = rows; nets = nets_of bookings; left = booking_limit - length bookings }
-
-always : (stage : Stage) (security : ℕ) (quantity : ℤ) → in_order stage (booking_entry security quantity) ≡ true
-always InRows security quantity = refl
-always InBookings security quantity = refl
 
 module _ (rows : Rows) where
   booking_step : (stage : Stage) (bookings : List BookingRecord) (b : BookingRecord)

@@ -8,7 +8,7 @@ use Rattle.frames.specs.Hex.{number_of}
 use Rattle.frames.specs.Kinds.{Kind, all_kinds, find_kind, class_kind, security_kind, pair_kind, booking_kind, deposit_kind, total_kind, fault_kind}
 use Rattle.lines.specs.declared.frame_line.FrameLine.{FrameLine}
 use Rattle.lines.specs.declared.frame_line.FrameLine.TheVariants.{Class, Security, Pair, Booking, Deposit, Total, Fault as Faulted}
-use Rattle.lines.specs.declared.part.Part.{Part}
+use Rattle.lines.specs.declared.part.Fields.{Fields}
 
 abbrev pub kind_of : FrameLine → Kind
 kind_of (Class part) = class_kind
@@ -19,7 +19,7 @@ kind_of (Deposit part) = deposit_kind
 kind_of (Total part) = total_kind
 kind_of (Faulted part) = fault_kind
 
-abbrev pub part_of : FrameLine → Part
+abbrev pub part_of : FrameLine → Fields
 part_of (Class part) = part
 part_of (Security part) = part
 part_of (Pair part) = part
@@ -29,15 +29,15 @@ part_of (Total part) = part
 part_of (Faulted part) = part
 
 -- what a kind byte and the fields tell
-abbrev pub TellsKind : ℕ → Part → Result FrameLine Fault → Type 0
-TellsKind byte part (Ok frame) = (find_kind all_kinds byte ≡ Some (kind_of frame)) × (part_of frame ≡ part) × (kind_refusal (find_kind all_kinds byte) part.digits.now ≡ None)
-TellsKind byte part (Err f) = Some f ≡ fault_of Frame 0 (kind_refusal (find_kind all_kinds byte) part.digits.now)
+abbrev pub TellsKind : ℕ → Fields → Result FrameLine Fault → Type 0
+TellsKind byte part (Ok frame) = (find_kind all_kinds byte ≡ Some (kind_of frame)) × (part_of frame ≡ part) × (kind_refusal (find_kind all_kinds byte) part.digits.text.now ≡ None)
+TellsKind byte part (Err f) = Some f ≡ fault_of Frame 0 (kind_refusal (find_kind all_kinds byte) part.digits.text.now)
 
 -- the frame of a line has the line's kind, its fields and its place
 pub record Framed (line : List ℕ) (at : ℕ) (frame : FrameLine) : Type 0 where
   pub passes : line_refusal all_kinds line ≡ None
   pub kind : find_kind all_kinds (number_of (take 2 line)) ≡ Some (kind_of frame)
-  pub fields : (part_of frame).digits.now ≡ drop 2 line
+  pub fields : (part_of frame).digits.text.now ≡ drop 2 line
   pub place : (part_of frame).place ≡ at
 
 -- what a line tells: its frame, or the fault of the first question answered no

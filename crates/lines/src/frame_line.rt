@@ -5,7 +5,7 @@ ghost use Rattle.terms.specs.declared.layer.Layer.TheVariants.{Frame as InFrame}
 ghost use Rattle.frames.specs.Frames.{fields_refusal};
 ghost use Rattle.lines.specs.FrameLines.{Tells, TellsKind};
 
-use crate::part::Part;
+use crate::part::{Fields, Part};
 use frames::codec::{check, split};
 use frames::frame::Frame;
 use frames::kinds::{
@@ -19,13 +19,13 @@ use terms::refusal::Refusal;
 // Kept: a rule of the project: one case a kind of frame, each with its part of the text and its place.
 #[derive(Clone, Copy)]
 pub enum FrameLine<'a> {
-    Class(Part<'a>),
-    Security(Part<'a>),
-    Pair(Part<'a>),
-    Booking(Part<'a>),
-    Deposit(Part<'a>),
-    Total(Part<'a>),
-    Fault(Part<'a>),
+    Class(Fields<'a>),
+    Security(Fields<'a>),
+    Pair(Fields<'a>),
+    Booking(Fields<'a>),
+    Deposit(Fields<'a>),
+    Total(Fields<'a>),
+    Fault(Fields<'a>),
 }
 
 // The frame, if the fields are those of its kind.
@@ -37,10 +37,10 @@ fn checked<'a, F: Frame>(frame: FrameLine<'a>, fields: &[u8]) -> Result<FrameLin
 }
 
 // The frame of this kind with these fields.
-fn of_kind<'a>(kind: u8, part: Part<'a>) -> Result<FrameLine<'a>, Fault>
+fn of_kind<'a>(kind: u8, part: Fields<'a>) -> Result<FrameLine<'a>, Fault>
     ensures { TellsKind kind part.entry result }
 {
-    let fields = part.digits;
+    let fields = part.digits.text;
     match kind {
         ClassFrame::KIND => checked::<ClassFrame>(FrameLine::Class(part), fields),
         SecurityFrame::KIND => checked::<SecurityFrame>(FrameLine::Security(part), fields),
@@ -62,6 +62,6 @@ impl<'a> TryFrom<Part<'a>> for FrameLine<'a> {
     fn try_from(line: Part<'a>) -> Result<FrameLine<'a>, Fault> {
         let (kind, digits) = split(line.digits)?;
         let place = line.place;
-        of_kind(kind, Part { digits, place })
+        of_kind(kind, Fields { digits, place })
     }
 }

@@ -4,9 +4,7 @@ use borrow.Author.Differences.{up, down}
 use Rattle.std.proofs.lemmas.List.{get_or_past}
 use Rattle.std.proofs.lemmas.Bool.{cases_lt, leb-true, ltb-false}
 use Rattle.terms.specs.Limits.{security_count, amount_limit}
-use Rattle.terms.specs.Questions.{ask}
 use Rattle.terms.specs.declared.layer.Layer.TheVariants.{Deposit}
-use Rattle.terms.specs.declared.refusal.Refusal.{Refusal}
 use Rattle.terms.proofs.Answered.{asked as question_passed}
 use Rattle.terms.specs.declared.refusal.Refusal.TheVariants.{AmountTooLarge}
 use Rattle.rules.specs.declared.rows.SecurityRow.{SecurityRow}
