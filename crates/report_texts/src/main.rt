@@ -1,17 +1,19 @@
-// Prints what is said of texts that are refused, and of texts that hold nothing, under the name of each.
+// Prints what `inspect` and `gap` say of texts that are refused, and of texts that hold nothing, under the name of each.
 #![tactic(auto)]
 
 mod cases;
 
 use crate::cases::CASES;
-use gaps::report::Report;
+use gaps::report::Report as Gap;
+use inspections::report::Report as Inspection;
 use std::io;
 use terms::limits::TEXT_LIMIT;
 
 // Prints a name and what is said of a text.
 fn say(rt: &HostRuntime, name: &str, text: &[u8]) -> io::Result<()> {
     println!(rt; "{name}")?;
-    print!(rt; "{}", Report(text))
+    print!(rt; "- inspect:\n{}", Inspection(text))?;
+    print!(rt; "- gap:\n{}", Gap(text))
 }
 
 fn main(rt: HostRuntime) -> io::Result<()> {

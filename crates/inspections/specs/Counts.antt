@@ -4,8 +4,8 @@ use Rattle.terms.specs.declared.refusal.Refusal.{Refusal}
 use Rattle.frames.specs.Frames.{line_refusal}
 use Rattle.frames.specs.Hex.{number_of}
 use Rattle.frames.specs.Kinds.{all_kinds}
-use Rattle.inspect.specs.declared.told.Told.{Told}
-use Rattle.inspect.specs.declared.told.Told.TheVariants.{Class, Security, Pair, Booking, Deposit, Total, Fault}
+use Rattle.inspections.specs.declared.told.Told.{Told}
+use Rattle.inspections.specs.declared.told.Told.TheVariants.{Class, Security, Pair, Booking, Deposit, Total, Fault}
 
 -- the kind byte of a kind of frame
 abbrev pub byte_of : Told → ℕ

@@ -1,8 +1,8 @@
 // How many lines of a text are frames of each kind.
 ghost use Rattle.std.specs.Prelude.{◌≡◌, length};
 ghost use Rattle.lines.specs.Lines.{lines_of};
-ghost use Rattle.inspect.specs.Counts.{count_of, told_byte};
-ghost use Rattle.inspect.specs.Sums.{Counted};
+ghost use Rattle.inspections.specs.Counts.{count_of, told_byte};
+ghost use Rattle.inspections.specs.Sums.{Counted};
 
 use crate::told::{Told, is_told_as};
 use lines::reader::LineReader;

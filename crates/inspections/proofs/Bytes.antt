@@ -15,8 +15,8 @@ use Rattle.frames.specs.Hex.{number_of}
 use Rattle.frames.specs.Kinds.{Kind, all_kinds, find_kind}
 use Rattle.lines.specs.declared.frame_line.FrameLine.{FrameLine}
 use Rattle.lines.specs.FrameLines.{Framed, Tells, kind_of}
-use Rattle.inspect.specs.declared.told.Told.{Told}
-use Rattle.inspect.specs.Counts.{byte_of, byte_told, told_byte, line_byte, count_of}
+use Rattle.inspections.specs.declared.told.Told.{Told}
+use Rattle.inspections.specs.Counts.{byte_of, byte_told, told_byte, line_byte, count_of}
 
 byte_framed : (line : List ℕ) (at : ℕ) (frame : FrameLine) → Framed line at frame → (kind_of frame).byte ≡ line_byte line
 byte_framed line at frame framed =

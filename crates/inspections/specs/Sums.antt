@@ -1,7 +1,7 @@
 -- The counts of a text. Assumes nothing.
 use Rattle.std.specs.Prelude.{◌≡◌, ℕ, ◌+◌, List, length}
-use Rattle.inspect.specs.Counts.{count_of}
-use Rattle.inspect.specs.declared.totals.Totals.{Totals}
+use Rattle.inspections.specs.Counts.{count_of}
+use Rattle.inspections.specs.declared.totals.Totals.{Totals}
 
 -- each count is that of its kind byte, and each line is counted once
 pub record Counted (text : List (List ℕ)) (t : Totals) : Type 0 where

@@ -1,6 +1,6 @@
 // What a line is, by its kind.
 ghost use Rattle.std.specs.Prelude.{◌≡◌, ◌==◌};
-ghost use Rattle.inspect.specs.Counts.{byte_of, line_byte, told_byte};
+ghost use Rattle.inspections.specs.Counts.{byte_of, line_byte, told_byte};
 ghost use Rattle.lines.specs.FrameLines.{kind_of};
 
 use lines::frame_line::FrameLine;
