@@ -1,10 +1,12 @@
 -- How an implementation shows what its bookings do.
-use Rattle.std.proofs.Common.{◌≡◌, ℕ, ◌+◌, true, ℤ, Some, None, Ok, Option, sym, refl, subst, arith}
-use Rattle.std.proofs.lemmas.Bool.{both_ways}
+use Rattle.std.proofs.Common.{◌≡◌, ℕ, ◌+◌, ◌-◌, true, Some, None, Ok, Option, sym, refl, ap, ◌∙◌, subst, arith}
+use Rattle.std.proofs.lemmas.Bool.{both_ways, ltb-true}
 use Rattle.terms.specs.Questions.{answer}
 use Rattle.terms.specs.declared.layer.Layer.{Layer}
 use Rattle.terms.specs.declared.refusal.Refusal.{Refusal}
-use Rattle.books.specs.Books.{Books, Answer, booking_refusal, booking_answer, booked}
+use Rattle.books.specs.declared.booking.Booking.{Booking}
+use Rattle.books.specs.Books.{Account, Answer, Books, Meaning, booked, booking_answer, booking_refusal, nets_of}
+use Rattle.books.proofs.Accounts.{booked_net, same_account, shifted}
 use Rattle.books.proofs.Questions.{Accepted, all_yes}
 
 -- a value was told, so no question refused
@@ -13,20 +15,25 @@ told layer place x v None e = (refl, cc)
 told layer place x v (Some refusal) e = let z : ◌≡◌ {A = ℕ} 0 1 = cc in absurd (omega arith)
 
 -- an accepted booking had every question answered yes
-pub was_accepted : (layer : Layer) (nets : ℕ → ℤ) (left security : ℕ) (quantity : ℤ) → Ok tt ≡ booking_answer layer nets left security quantity → Accepted nets left security quantity
-was_accepted layer nets left security quantity e =
-    all_yes nets left security quantity (told layer security tt tt (booking_refusal nets left security quantity) e).0
+pub was_accepted : (layer : Layer) (a : Account) (b : Booking) → Ok tt ≡ booking_answer layer a b → Accepted a b
+was_accepted layer a b e = all_yes a b (told layer b.security tt tt (booking_refusal a b) e).0
 
-module _ {B : Type 0} (nets : B → ℕ → ℤ) (left : B → ℕ) (posts : B → ℕ → ℤ → B → Type 0) (layer : Layer) (before : B) (security : ℕ) (quantity : ℤ) where
-  pub accepts : (after : B) → Ok tt ≡ booking_answer layer (nets before) (left before) security quantity → ((s : ℕ) → nets after s ≡ booked (nets before) security quantity s) → left after + 1 ≡ left before → posts before security quantity after → Books nets left posts layer before security quantity (Ok tt) after
-  accepts after e m n p = record {
-    decided = e;
-    refused = λ no_Ok. absurd (both_ways true no_Ok refl);
-    moved = λ _ i s. m s i;
-    spent = λ _. n;
-    posted = λ _. p;
-  }
+module _ {B : Type 0} (book : Meaning B) (before : B) (b : Booking) where
+  pub accepts : (after : B) → Ok tt ≡ booking_answer book.layer (book.account before) b → ((s : ℕ) → nets_of (book.account after) s ≡ shifted (nets_of (book.account before)) b.security b.quantity s) → (book.account after).left + 1 ≡ (book.account before).left → book.posts before b after → Books book before b (Ok tt) after
+  accepts after e m n p =
+      let left : (book.account after).left ≡ (book.account before).left - 1 = omega (arith, n) in
+      record {
+        decided = e;
+        refused = λ no_Ok. absurd (both_ways true no_Ok refl);
+        moved = λ _. same_account (book.account after) (booked (book.account before) b) (λ s. m s ∙ sym (booked_net (book.account before) b s)) left;
+        posted = λ _. p;
+      }
 
   -- the same, of a result that turns out to be no refusal
-  pub accepts_so : (r : Answer) (after : B) → r ≡ Ok tt → Ok tt ≡ booking_answer layer (nets before) (left before) security quantity → ((s : ℕ) → nets after s ≡ booked (nets before) security quantity s) → left after + 1 ≡ left before → posts before security quantity after → Books nets left posts layer before security quantity r after
-  accepts_so r after ok e m n p = subst (λ a. Books nets left posts layer before security quantity a after) (sym ok) (accepts after e m n p)
+  pub accepts_so : (r : Answer) (after : B) → r ≡ Ok tt → Ok tt ≡ booking_answer book.layer (book.account before) b → ((s : ℕ) → nets_of (book.account after) s ≡ shifted (nets_of (book.account before)) b.security b.quantity s) → (book.account after).left + 1 ≡ (book.account before).left → book.posts before b after → Books book before b r after
+  accepts_so r after ok e m n p = subst (λ a. Books book before b a after) (sym ok) (accepts after e m n p)
+
+  -- an accepted booking uses one up
+  pub spent : (after : B) → Books book before b (Ok tt) after → (book.account after).left + 1 ≡ (book.account before).left
+  spent after h =
+      omega (arith, ap (λ a. a.left) (h.moved refl), ltb-true 0 (book.account before).left (was_accepted book.layer (book.account before) b h.decided).free)

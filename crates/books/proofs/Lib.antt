@@ -1,3 +1,4 @@
+pub mod Accounts
 pub mod Bookings
 pub mod Limits
 pub mod Questions

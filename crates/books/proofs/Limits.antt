@@ -5,7 +5,8 @@ use Rattle.std.proofs.lemmas.Int.{ints}
 use Rattle.std.proofs.lemmas.List.{get_or-replicate, get_or_past}
 use Rattle.std.proofs.lemmas.Bool.{cases_lt, cond-true, cond-false, eq-eqb, ne_eqb, cases_eq, leb-true, le-leb}
 use Rattle.terms.specs.Limits.{net_limit, quantity_limit}
-use Rattle.books.specs.Books.{Within, within, booked}
+use Rattle.books.specs.Books.{Within, within}
+use Rattle.books.proofs.Accounts.{shifted}
 
 pub within_yes : (n : ℕ) (z : ℤ) → within n z ≡ true → Within n z
 within_yes n z e = leb-true (nat_abs z) n e
@@ -14,28 +15,28 @@ pub yes_within : (n : ℕ) (z : ℤ) → Within n z → within n z ≡ true
 yes_within n z h = le-leb (nat_abs z) n h
 
 -- the security's own net moves
-pub booked_same : (nets : ℕ → ℤ) (security : ℕ) (quantity : ℤ) → booked nets security quantity security ≡ nets security +ℤ quantity
-booked_same nets security quantity = cond-true (eqb security security) _ _ (eq-eqb security security refl)
+pub shifted_same : (nets : ℕ → ℤ) (security : ℕ) (quantity : ℤ) → shifted nets security quantity security ≡ nets security +ℤ quantity
+shifted_same nets security quantity = cond-true (eqb security security) _ _ (eq-eqb security security refl)
 
 -- and no other
-pub booked_other : (nets : ℕ → ℤ) (security : ℕ) (quantity : ℤ) (s : ℕ) → (s ≡ security → ⊥) → booked nets security quantity s ≡ nets s
-booked_other nets security quantity s ne = cond-false (eqb s security) _ _ (ne_eqb s security ne)
+pub shifted_other : (nets : ℕ → ℤ) (security : ℕ) (quantity : ℤ) (s : ℕ) → (s ≡ security → ⊥) → shifted nets security quantity s ≡ nets s
+shifted_other nets security quantity s ne = cond-false (eqb s security) _ _ (ne_eqb s security ne)
 
 -- what holds of every net before, and of the new one, holds of every net after
-pub booked_all : (P : ℤ → Type 0) (nets : ℕ → ℤ) (security : ℕ) (quantity : ℤ) → ((s : ℕ) → P (nets s)) → P (nets security +ℤ quantity) → (s : ℕ) → P (booked nets security quantity s)
-booked_all P nets security quantity each new s =
+pub shifted_all : (P : ℤ → Type 0) (nets : ℕ → ℤ) (security : ℕ) (quantity : ℤ) → ((s : ℕ) → P (nets s)) → P (nets security +ℤ quantity) → (s : ℕ) → P (shifted nets security quantity s)
+shifted_all P nets security quantity each new s =
     ⊎_elim
-    (λ e. subst P (sym (ap (booked nets security quantity) e ∙ booked_same nets security quantity)) new)
-    (λ ne. subst P (sym (booked_other nets security quantity s ne)) (each s))
+    (λ e. subst P (sym (ap (shifted nets security quantity) e ∙ shifted_same nets security quantity)) new)
+    (λ ne. subst P (sym (shifted_other nets security quantity s ne)) (each s))
     (cases_eq s security)
 
 -- one entry of a table moves as a booking moves a net
-pub set_books : (xs : List ℤ) (security : ℕ) (quantity : ℤ) → security < length xs → (s : ℕ) → get_or (set xs security (get_or xs security (pos 0) +ℤ quantity)) s (pos 0) ≡ booked (λ t. get_or xs t (pos 0)) security quantity s
-set_books xs security quantity within s =
+pub set_shifts : (xs : List ℤ) (security : ℕ) (quantity : ℤ) → security < length xs → (s : ℕ) → get_or (set xs security (get_or xs security (pos 0) +ℤ quantity)) s (pos 0) ≡ shifted (λ t. get_or xs t (pos 0)) security quantity s
+set_shifts xs security quantity within s =
     let nets : ℕ → ℤ = λ t. get_or xs t (pos 0) in
     ⊎_elim
-    (λ e. ap (λ t. get_or (set xs security (get_or xs security (pos 0) +ℤ quantity)) t (pos 0)) e ∙ rw get_or-set_same refl ∙ sym (ap (booked nets security quantity) e ∙ booked_same nets security quantity))
-    (λ (ne : s ≢ security). rw get_or-set_other refl ∙ sym (booked_other nets security quantity s ne))
+    (λ e. ap (λ t. get_or (set xs security (get_or xs security (pos 0) +ℤ quantity)) t (pos 0)) e ∙ rw get_or-set_same refl ∙ sym (ap (shifted nets security quantity) e ∙ shifted_same nets security quantity))
+    (λ (ne : s ≢ security). rw get_or-set_other refl ∙ sym (shifted_other nets security quantity s ne))
     (cases_eq s security)
 
 -- two nets lie no further apart than a booking may go

@@ -9,10 +9,11 @@ use Rattle.lists.specs.declared.list.List.{List}
 use Rattle.lists.specs.Lists.{items, memory, Appended}
 use Rattle.terms.specs.Limits.{net_limit, security_count}
 use Rattle.books.specs.declared.booking.Booking.{Booking}
-use Rattle.books.specs.Books.{booked, Within}
+use Rattle.books.specs.Books.{Within}
+use Rattle.books.proofs.Accounts.{shifted}
 use Rattle.books.specs.Journals.{free}
 use Rattle.books.specs.Totals.{share, total}
-use Rattle.books.proofs.Limits.{booked_all, booked_other}
+use Rattle.books.proofs.Limits.{shifted_all, shifted_other}
 
 pub total_push : (bs : L.List Booking) (b : Booking) (s : ℕ) → total (bs ++ b ∷ []) s ≡ total bs s +ℤ share b s
 total_push [] b s = +ℤ_idr (share b s) ∙ sym (+ℤ_idl (share b s))
@@ -27,7 +28,7 @@ added true n q = refl
 added false n q = +ℤ_idr n
 
 -- it moves the sums as a booking moves the nets
-pub total_books : (bs : L.List Booking) (b : Booking) (s : ℕ) → total (bs ++ b ∷ []) s ≡ booked (total bs) b.security b.quantity s
+pub total_books : (bs : L.List Booking) (b : Booking) (s : ℕ) → total (bs ++ b ∷ []) s ≡ shifted (total bs) b.security b.quantity s
 total_books bs b s = total_push bs b s ∙ added (eqb s b.security) (total bs s) b.quantity
 
 -- it keeps every limit, where the new sum does
@@ -35,7 +36,7 @@ pub push_limited : (bs : L.List Booking) (b : Booking) → ((n s : ℕ) → With
 push_limited bs b each new n s =
     let Kept : L.List Booking → Type 0 = λ l. Within net_limit (total l s) in
     let whole : (t : ℕ) → Within net_limit (total bs t) = λ t. subst (λ l. Within net_limit (total l t)) (take_all (length bs) bs (omega arith)) (each (length bs) t) in
-    let after = booked_all (Within net_limit) (total bs) b.security b.quantity whole new s in
+    let after = shifted_all (Within net_limit) (total bs) b.security b.quantity whole new s in
     ⊎_elim
     (λ (le : n < suc (length bs)). subst Kept (sym (take-append-le n bs (b ∷ []) (omega arith))) (each n s))
     (λ (gt : suc (length bs) ≤ n). subst Kept (sym (take_all n (bs ++ b ∷ []) (simp length-append (omega arith))))
@@ -43,11 +44,8 @@ push_limited bs b each new n s =
     (cases_lt n (suc (length bs)))
 
 -- the list with one booking more
-module _ (security : ℕ) (quantity : ℤ) (before after : List Booking) (h : Appended (record { security = security; quantity = quantity }) before after) where
-  abbrev booking : Booking
-  booking = record { security = security; quantity = quantity }
-
-  pub nets_after : (s : ℕ) → total (items after) s ≡ booked (total (items before)) security quantity s
+module _ (booking : Booking) (before after : List Booking) (h : Appended booking before after) where
+  pub nets_after : (s : ℕ) → total (items after) s ≡ shifted (total (items before)) booking.security booking.quantity s
   nets_after s = ap (λ l. total l s) h.items ∙ total_books (items before) booking s
 
   pub count_after : length (items after) ≡ length (items before) + 1
@@ -56,9 +54,9 @@ module _ (security : ℕ) (quantity : ℤ) (before after : List Booking) (h : Ap
   pub left_after : 0 < free (length (memory before)) (length (items before)) → free (length (memory after)) (length (items after)) + 1 ≡ free (length (memory before)) (length (items before))
   left_after f = omega (arith, count_after, ap length h.memory, length-set (memory before) (length (items before)) booking)
 
-  pub limited_after : ((n s : ℕ) → Within net_limit (total (take n (items before)) s)) → Within net_limit (total (items before) security +ℤ quantity) → (n s : ℕ) → Within net_limit (total (take n (items after)) s)
+  pub limited_after : ((n s : ℕ) → Within net_limit (total (take n (items before)) s)) → Within net_limit (total (items before) booking.security +ℤ booking.quantity) → (n s : ℕ) → Within net_limit (total (take n (items after)) s)
   limited_after each new n s =
       subst (λ l. Within net_limit (total (take n l) s)) (sym h.items) (push_limited (items before) booking each new n s)
 
-  pub known_after : security < security_count → ((s : ℕ) → security_count ≤ s → total (items before) s ≡ pos 0) → (s : ℕ) → security_count ≤ s → total (items after) s ≡ pos 0
-  known_after within known s past = nets_after s ∙ booked_other (total (items before)) security quantity s (λ e. omega arith) ∙ known s past
+  pub known_after : booking.security < security_count → ((s : ℕ) → security_count ≤ s → total (items before) s ≡ pos 0) → (s : ℕ) → security_count ≤ s → total (items after) s ≡ pos 0
+  known_after within known s past = nets_after s ∙ shifted_other (total (items before)) booking.security booking.quantity s (λ e. omega arith) ∙ known s past

@@ -4,7 +4,8 @@ use Rattle.std.proofs.Common.{subst, arith, take_all}
 use Rattle.lists.specs.declared.list.List.{List}
 use Rattle.lists.specs.Lists.{items, lender, memory, Appended}
 use Rattle.terms.specs.Limits.{booking_limit, net_limit, security_count}
-use Rattle.books.specs.Books.{Within}
+use Rattle.terms.specs.declared.layer.Layer.TheVariants as layers
+use Rattle.books.specs.Books.{Account, Meaning, Within, account_of}
 use Rattle.books.specs.Totals.{total}
 use Rattle.books.specs.declared.booking.Booking.{Booking}
 use Rattle.books.specs.declared.journal.Journal.{Journal}
@@ -21,14 +22,18 @@ free places used = min booking_limit places - used
 abbrev pub journal_left : Journal → ℕ
 journal_left j = free (length (memory j.list)) (length (items j.list))
 
+abbrev pub journal_account : Journal → Account
+journal_account j = account_of (journal_nets j) (journal_left j)
+
 -- What an accepted booking does to the list that holds the bookings, and to its memory: the booking stands in the first
 -- free place, and no other place changes.
-pub record Listed (security : ℕ) (quantity : ℤ) (before after : List Booking) : Type 0 where
+pub record Listed (booking : Booking) (before after : List Booking) : Type 0 where
   pub lender : lender after ≡ lender before
-  pub appended : Appended (record { security = security; quantity = quantity }) before after
+  pub appended : Appended booking before after
 
-abbrev pub journal_posts : Journal → ℕ → ℤ → Journal → Type 0
-journal_posts before security quantity after = Listed security quantity before.list after.list
+-- what a journal means
+abbrev pub journal_meaning : Meaning Journal
+journal_meaning = record { account = journal_account; posts = λ j b k. Listed b j.list k.list; layer = layers.Book }
 
 -- each net keeps to its limit
 pub journal_limited : (j : Journal) (s : ℕ) → Within net_limit (journal_nets j s)

@@ -10,7 +10,7 @@ use lists::list::List;
 
 mod methods;
 
-// The trade journal: at most so many bookings as a book takes, all of listed securities, and no net past its limit after any of them.
+/// The trade journal: at most so many bookings as a book takes, all of listed securities, and no net past its limit after any of them.
 #[derive(Drop)]
 pub struct Journal<'a> {
     list: List<'a, Booking>,

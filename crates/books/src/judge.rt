@@ -1,5 +1,5 @@
 // The questions that every book puts to a booking, once its net is read.
-ghost use Rattle.books.specs.Books.{booking_answer, bookable, reading_refusal, within, Within};
+ghost use Rattle.books.specs.Books.{account_of, booking_answer, bookable, reading_refusal, within, Within};
 ghost use Rattle.terms.specs.Limits.{net_limit};
 ghost use Rattle.terms.specs.Questions.{answer};
 ghost use Rattle.std.specs.Prelude.{◌≡◌};
@@ -37,7 +37,7 @@ pub(crate) fn known(layer: Layer, security: u16) -> Result<(), Fault>
 // The answer to a booking of a security that has this net, in a book with so many bookings left.
 pub(crate) fn judge(layer: Layer, booking: Booking, left: u32, net: i64) -> Result<(), Fault>
     requires { Within net_limit net }
-    ensures { result ≡ booking_answer layer (λ _. net) left booking.security booking.quantity }
+    ensures { result ≡ booking_answer layer (account_of (λ _. net) left) booking }
 {
     let Booking { security, quantity } = booking;
     known(layer, security)?;

@@ -8,7 +8,7 @@ use terms::limits::SECURITIES;
 mod methods;
 mod reading;
 
-// The net of each security, and how many bookings are left.
+/// The net of each security, and how many bookings are left.
 #[derive(Drop)]
 pub struct Ledger {
     nets: [i64; SECURITIES],

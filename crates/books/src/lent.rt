@@ -1,9 +1,10 @@
 // A book that is lent, so that a layer can stand above it.
-ghost use Rattle.std.specs.Prelude.{◌≡◌};
+ghost use Rattle.books.specs.Books.{lent_meaning};
 
 use crate::book::{Book, Positions};
 use crate::booking::Booking;
 use terms::fault::Fault;
+use terms::limits::SECURITIES;
 
 impl<'b, B: Positions> Positions for &'b mut B {
     ghost nets = { λ r. B.Positions.nets r.now };
@@ -17,13 +18,18 @@ impl<'b, B: Positions> Positions for &'b mut B {
     fn net(&self, security: u16) -> Result<i64, Fault> {
         (**self).net(security)
     }
+
+    fn all_nets(&self) -> [i64; SECURITIES] {
+        (**self).all_nets()
+    }
 }
 
 impl<'b, B: Book> Book for &'b mut B {
-    ghost left = { λ r. B.Book.left r.now };
+    ghost meaning = { lent_meaning B.Book.meaning };
 
-    // The booking is posted to the book that was lent.
-    ghost posts = { λ r s q t. (t.ghost_name ≡ r.ghost_name) × B.Book.posts r.now s q t.now };
+    ghost netted = { λ r. B.Book.netted r.now };
+
+    ghost named = { B.Book.named };
 
     fn bookings_left(&self) -> u32 {
         (**self).bookings_left()

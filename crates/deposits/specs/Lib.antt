@@ -2,3 +2,4 @@ pub mod Told
 pub mod Records
 pub mod Walks
 pub mod Deposits
+pub mod Legs

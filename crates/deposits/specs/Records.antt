@@ -1,23 +1,22 @@
 -- The class records as the steps of a deposit leave them. Assumes nothing.
-use Rattle.std.specs.Prelude.{◌≡◌, ℕ, ◌+◌, ◌-◌, ◌^◌, ◌<◌, ◌≤◌, min, Bool, ◌&&◌, get_or, ℤ, pos, ◌-ℤ◌, Option, nat_lt, slice_index_or, slice_set, unsigned_abs}
+use Rattle.std.specs.Prelude.{ℕ, ◌+◌, ◌-◌, ◌≤◌, min, Bool, ◌&&◌, get_or, ℤ, pos, ◌-ℤ◌, nat_lt, unsigned_abs}
 use mathlib.Core.List as L
-use Rattle.terms.specs.Limits.{security_count, class_count, whole}
 use Rattle.rules.specs.declared.rows.PairRow.{PairRow}
 use Rattle.rules.specs.Laws.{deposit_limit}
 use Rattle.rules.specs.Rows.{Rows}
-use Rattle.rules.specs.Margin.{rounded, matched, towards}
+use Rattle.rules.specs.Margin.{rounded}
 use Rattle.sheets.specs.Readings.{Figures, rates_in}
-use Rattle.positions.specs.declared.position.Position.{Position}
-use Rattle.positions.specs.Values.{zl, bought_in, sold_in, count_in_lem}
+use Rattle.positions.specs.declared.class_sum.ClassSum.{ClassSum}
+use Rattle.positions.specs.Values.{zl}
 use Rattle.deposits.specs.declared.records.ClassMargin.{ClassMargin}
-use Rattle.deposits.specs.Told.{gr, none}
+use Rattle.deposits.specs.Told.{gr, none, sz}
 
 -- a class before any pair is served, by its rates, its two sums and whether it is held
 abbrev pub opened_by : Figures → ℕ → ℕ → Bool → ClassMargin
 opened_by rates pk ps held = record {
   bought = zl pk;
   sold = zl ps;
-  leftover = pos pk -ℤ pos ps;
+  leftover = sz (pos pk -ℤ pos ps);
   held = held;
   drr = gr (rounded.part rates.y (unsigned_abs (pos pk -ℤ pos ps)));
   drs = gr (rounded.part rates.x (pk + ps));
@@ -26,20 +25,20 @@ opened_by rates pk ps held = record {
   dolr = gr 0;
 }
 
-abbrev pub opened : Rows → L.List (Option Position) → ℕ → ClassMargin
-opened rows all c = opened_by (rates_in (rows.classes c)) (bought_in all c security_count) (sold_in all c security_count) (nat_lt 0 (count_in_lem all c security_count))
+abbrev pub class_opened : Rows → ClassSum → ℕ → ClassMargin
+class_opened rows sum c = opened_by (rates_in (rows.classes c)) sum.bought.units sum.sold.units (nat_lt 0 sum.held)
 
 -- ---- the walk over the pairs
 
 abbrev pub left_of : L.List ClassMargin → ℕ → ℤ
-left_of cs c = (get_or cs c none).leftover
+left_of cs c = (get_or cs c none).leftover.net
 
 -- a class with another leftover and other credits
 abbrev pub walked : ClassMargin → ℤ → ℕ → ClassMargin
 walked w left credits = record {
   bought = w.bought;
   sold = w.sold;
-  leftover = left;
+  leftover = sz left;
   held = w.held;
   drr = w.drr;
   drs = w.drs;
@@ -47,38 +46,6 @@ walked w left credits = record {
   kspk = gr credits;
   dolr = w.dolr;
 }
-
--- a class of which m is matched, for a credit
-abbrev pub with_credit : ℕ → ℕ → ClassMargin → ClassMargin
-with_credit m credit w = walked w (towards w.leftover m) (w.kspk.grosz + credit)
-
--- what a pair matches
-abbrev pub part : PairRow → L.List ClassMargin → ℕ
-part p cs = matched (left_of cs p.first) (left_of cs p.second)
-
--- the records once a pair is served: two change, in their leftover and their credits
-abbrev pub served : PairRow → L.List ClassMargin → L.List ClassMargin
-served p cs =
-    let m = part p cs in
-    let credit = rounded.credit p.crt m in
-    slice_set (slice_set cs p.first (with_credit m credit (slice_index_or cs p.first none))) p.second (with_credit m credit (slice_index_or cs p.second none))
-
--- what a walk needs of a pair
-pub record Sound (p : PairRow) : Type 0 where
-  pub one : p.first < class_count
-  pub other : p.second < class_count
-  pub apart : p.first ≡ p.second → ⊥
-  pub small : p.crt ≤ whole
-
--- a class whose figures leave room for credits
-abbrev pub Roomy : ClassMargin → Type 0
-Roomy w = (unsigned_abs w.leftover ≤ 2 ^ 62) × (w.kspk.grosz ≤ 2 ^ 62)
-
--- a pair that can be served: it is sound, and its two classes leave room
-pub record Servable (p : PairRow) (cs : L.List ClassMargin) : Type 0 where
-  pub sound : Sound p
-  pub first : Roomy (slice_index_or cs p.first none)
-  pub second : Roomy (slice_index_or cs p.second none)
 
 -- ---- what a class owes
 

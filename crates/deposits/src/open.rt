@@ -1,19 +1,20 @@
 // The class records before any pair is served.
 ghost use Rattle.std.specs.Prelude.{◌≡◌, ℕ, ◌+◌, ◌<◌, ◌≤◌, min, pos, ◌-ℤ◌, slice_index_or, unsigned_abs};
-ghost use Rattle.deposits.specs.Records.{opened, opened_by};
+ghost use Rattle.deposits.specs.Records.{class_opened, opened_by};
 ghost use Rattle.deposits.specs.Told.{none};
-ghost use Rattle.positions.specs.Portfolios.{positions_of};
+ghost use Rattle.positions.specs.ClassSums.{no_sum};
 ghost use Rattle.rules.specs.Laws.{sum_limit};
 ghost use Rattle.sheets.specs.Readings.{figures_of};
 ghost use Rattle.terms.specs.Limits.{class_count};
 
 use crate::records::ClassMargin;
-use positions::portfolio::Portfolio;
+use positions::class_sum::ClassSum;
+use positions::class_sums::ClassSums;
 use sheets::rates::Rates;
 use sheets::reading::rates_of;
 use sheets::sheet::Sheet;
 use terms::limits::CLASSES;
-use terms::money::{Grosz, Zloty};
+use terms::money::{Grosz, SignedZloty, Zloty};
 
 // How far two sums are apart, and the smaller one.
 // Kept: a rule of the project: the sums of a class are the pair (PK, PS).
@@ -38,7 +39,7 @@ fn open_by(rates: Rates, sums: (Zloty, Zloty), held: bool) -> ClassMargin
     ClassMargin {
         bought,
         sold,
-        leftover: bought.units() as i64 - sold.units() as i64,
+        leftover: SignedZloty::net(bought, sold),
         held,
         drr: apart.percentage(rates.y),
         drs: (bought + sold).percentage(rates.x),
@@ -49,25 +50,22 @@ fn open_by(rates: Rates, sums: (Zloty, Zloty), held: bool) -> ClassMargin
 }
 
 // A class before any pair is served.
-fn open_class<S: Sheet>(sheet: &S, portfolio: &Portfolio, class: u16) -> ClassMargin
-    ensures { result ≡ opened (S.Sheet.rows sheet.now) (positions_of portfolio.now) class }
+fn open_class<S: Sheet>(sheet: &S, sum: &ClassSum, class: u16) -> ClassMargin
+    requires { sum.now.bought.units + sum.now.sold.units ≤ sum_limit }
+    ensures { result ≡ class_opened (S.Sheet.rows sheet.now) sum.now class }
 {
-    open_by(
-        rates_of(sheet, class),
-        portfolio.class_sums(class),
-        portfolio.held_in(class) > 0,
-    )
+    open_by(rates_of(sheet, class), sum.pair(), sum.held > 0)
 }
 
 // All classes before any pair is served.
 pub(crate) fn open_classes<S: Sheet>(
     sheet: &S,
-    portfolio: &Portfolio,
+    sums: &ClassSums,
     classes: &mut [ClassMargin; CLASSES],
 )
-    ensures { (c : ℕ) → c < class_count → slice_index_or classes.new c none ≡ opened (S.Sheet.rows sheet.now) (positions_of portfolio.now) c }
+    ensures { (c : ℕ) → c < class_count → slice_index_or classes.new c none ≡ class_opened (S.Sheet.rows sheet.now) (slice_index_or sums.now.classes c no_sum) c }
 {
     for (class, place) in classes.iter_mut().enumerate() {
-        *place = open_class(sheet, portfolio, class as u16);
+        *place = open_class(sheet, &sums.classes[class], class as u16);
     }
 }

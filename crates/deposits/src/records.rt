@@ -1,15 +1,15 @@
 // What a deposit tells.
-use terms::money::{Grosz, Zloty};
+use terms::money::{Grosz, SignedZloty, Zloty};
 
-// Of one class: its sums PK and PS and its leftover in zloty units, whether it is held, and its parts.
+/// Of one class: its sums PK and PS and its leftover in zloty units, whether it is held, and its parts.
 // Kept: a rule of the project: a class's figures are PK, PS, leftover, held, DRR, DRS, DSWK, KSPK and DOLR, and all of them are
 // defined where it is not held.
 #[derive(Clone, Copy)]
 pub struct ClassMargin {
     pub bought: Zloty,
     pub sold: Zloty,
-    // what no pair has matched: bought positive, sold negative
-    pub leftover: i64,
+    /// what no pair has matched: bought positive, sold negative
+    pub leftover: SignedZloty,
     pub held: bool,
     pub drr: Grosz,
     pub drs: Grosz,
@@ -19,12 +19,12 @@ pub struct ClassMargin {
 }
 
 impl ClassMargin {
-    // Of a class that is not held.
+    /// Of a class that is not held.
     // Kept: no plainer: it is a constant, of which arrays and other constants are made; a Default would stand beside it.
     pub const NONE: ClassMargin = ClassMargin {
         bought: Zloty::ZERO,
         sold: Zloty::ZERO,
-        leftover: 0,
+        leftover: SignedZloty::ZERO,
         held: false,
         drr: Grosz::ZERO,
         drs: Grosz::ZERO,
@@ -34,7 +34,7 @@ impl ClassMargin {
     };
 }
 
-// Of a pair: its classes, and how much of their net values is matched.
+/// Of a pair: its classes, and how much of their net values is matched.
 #[derive(Clone, Copy)]
 pub struct Match {
     pub first: u16,
@@ -43,7 +43,7 @@ pub struct Match {
 }
 
 impl Match {
-    // Nothing is matched.
+    /// Nothing is matched.
     // Kept: no plainer: it is a constant, of which arrays and other constants are made; a Default would stand beside it.
     pub const NONE: Match = Match {
         first: 0,
@@ -52,7 +52,7 @@ impl Match {
     };
 }
 
-// Of a portfolio: DSPAN, and how many classes (C), securities (N) and pairs (R) are held.
+/// Of a portfolio: DSPAN, and how many classes (C), securities (N) and pairs (R) are held.
 // Kept: a rule of the project: the summary is DSPAN, C, N and R.
 #[derive(Clone, Copy)]
 pub struct Summary {

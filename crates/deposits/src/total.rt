@@ -2,15 +2,13 @@
 ghost use Rattle.std.specs.Prelude.{◌≡◌, ℕ, ◌<◌, ◌≤◌, get_or, slice_index_or};
 ghost use Rattle.deposits.specs.Records.{Owing, both_flagged, closed, held_flag};
 ghost use Rattle.deposits.specs.Told.{none};
-ghost use Rattle.positions.specs.Portfolios.{positions_of};
-ghost use Rattle.positions.specs.Values.{count_all_lem};
 ghost use Rattle.rules.specs.Held.{count_pairs};
 ghost use Rattle.rules.specs.Laws.{deposit_limit};
-ghost use Rattle.rules.specs.Sums.{count_below, sum_below};
-ghost use Rattle.terms.specs.Limits.{class_count, security_count};
+ghost use Rattle.terms.specs.Sums.{count_below, sum_below};
+ghost use Rattle.terms.specs.Limits.{class_count};
 
 use crate::records::{ClassMargin, Summary};
-use positions::portfolio::Portfolio;
+use positions::class_sums::ClassSums;
 use sheets::pairs::pairs_of;
 use sheets::sheet::Sheet;
 use terms::limits::CLASSES;
@@ -72,19 +70,19 @@ fn held_pairs<S: Sheet>(sheet: &S, classes: &[ClassMargin; CLASSES]) -> u8
 // DSPAN, C, N and R.
 pub(crate) fn sum_up<S: Sheet>(
     sheet: &S,
-    portfolio: &Portfolio,
+    sums: &ClassSums,
     classes: &[ClassMargin; CLASSES],
 ) -> Summary
     requires { (c : ℕ) → c < class_count → (get_or classes.now c none).dolr.grosz ≤ deposit_limit }
     ensures dspan { result.dspan.grosz ≡ sum_below class_count (λ c. (get_or classes.now c none).dolr.grosz) }
     ensures classes { result.classes ≡ count_below class_count (held_flag classes.now) }
-    ensures securities { result.securities ≡ count_all_lem (positions_of portfolio.now) security_count }
+    ensures securities { result.securities ≡ sums.now.held }
     ensures pairs { result.pairs ≡ count_pairs (both_flagged classes.now) (S.Sheet.rows sheet.now).pairs }
 {
     Summary {
         dspan: total(classes),
         classes: held_classes(classes),
-        securities: portfolio.held(),
+        securities: sums.held,
         pairs: held_pairs(sheet, classes),
     }
 }

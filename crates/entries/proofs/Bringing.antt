@@ -7,11 +7,14 @@ use Rattle.terms.specs.declared.choice.Side.TheVariants.{Bought, Sold}
 use Rattle.terms.specs.Choices.{class_kind_byte, side_byte, signed}
 use Rattle.frames.specs.Fields.{numbers_of, text_of}
 use Rattle.frames.specs.Kinds.{class_kind, security_kind, pair_kind, booking_kind}
-use Rattle.frames.specs.Records.{class_figures, security_figures, pair_figures, booking_figures}
-use Rattle.frames.specs.declared.record.BookingRecord.{BookingRecord}
-use Rattle.frames.specs.declared.record.ClassRecord.{ClassRecord}
-use Rattle.frames.specs.declared.record.PairRecord.{PairRecord}
-use Rattle.frames.specs.declared.record.SecurityRecord.{SecurityRecord}
+use Rattle.frames.specs.Classes.{class_figures}
+use Rattle.frames.specs.Securities.{security_figures}
+use Rattle.frames.specs.Pairs.{pair_figures}
+use Rattle.frames.specs.Bookings.{booking_figures}
+use Rattle.frames.specs.declared.kinds.booking.BookingRecord.{BookingRecord}
+use Rattle.frames.specs.declared.kinds.class.ClassRecord.{ClassRecord}
+use Rattle.frames.specs.declared.kinds.pair.PairRecord.{PairRecord}
+use Rattle.frames.specs.declared.kinds.security.SecurityRecord.{SecurityRecord}
 use Rattle.frames.specs.Texts.{numbers_text}
 use Rattle.entries.specs.Entries.{of_class, kind_named, side_named, listed_class, quantity_of}
 

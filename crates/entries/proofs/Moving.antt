@@ -1,51 +1,47 @@
 -- What the calls of a draft and of a book do, in the words of an intake. Assumes nothing.
-use Rattle.std.proofs.Common.{◌≡◌, ℕ, ◌-◌, List, get_or, ℤ, Some, None, Option, Result, sym, refl, ap, ◌∙◌, subst, arith}
+use Rattle.std.proofs.Common.{◌≡◌, ℕ, List, get_or, ℤ, Some, None, Option, Result, sym, refl, ap, ◌∙◌, subst}
 use Rattle.std.specs.Result.{result_err}
 use Rattle.terms.specs.declared.fault.Fault.{Fault}
 use Rattle.terms.specs.declared.layer.Layer.{Layer}
-use Rattle.terms.specs.declared.layer.Layer.TheVariants.{Sheet, Book}
+use Rattle.terms.specs.declared.layer.Layer.TheVariants.{Book}
 use Rattle.terms.specs.declared.refusal.Refusal.{Refusal}
 use Rattle.terms.specs.Questions.{answer, fault_of}
 use Rattle.terms.specs.Choices.{signed}
 use Rattle.frames.specs.Fields.{numbers_of, text_of}
 use Rattle.frames.specs.Kinds.{class_kind, security_kind, pair_kind, booking_kind}
-use Rattle.frames.specs.Records.{class_figures, security_figures, pair_figures, booking_figures}
-use Rattle.frames.specs.declared.record.BookingRecord.{BookingRecord}
-use Rattle.frames.specs.declared.record.ClassRecord.{ClassRecord}
-use Rattle.frames.specs.declared.record.PairRecord.{PairRecord}
-use Rattle.frames.specs.declared.record.SecurityRecord.{SecurityRecord}
-use Rattle.rules.specs.Rows.{Rows}
+use Rattle.frames.specs.Classes.{class_figures}
+use Rattle.frames.specs.Securities.{security_figures}
+use Rattle.frames.specs.Pairs.{pair_figures}
+use Rattle.frames.specs.Bookings.{booking_figures}
+use Rattle.frames.specs.declared.kinds.booking.BookingRecord.{BookingRecord}
+use Rattle.frames.specs.declared.kinds.class.ClassRecord.{ClassRecord}
+use Rattle.frames.specs.declared.kinds.pair.PairRecord.{PairRecord}
+use Rattle.frames.specs.declared.kinds.security.SecurityRecord.{SecurityRecord}
 use Rattle.books.specs.declared.table.NetTable.{NetTable}
-use Rattle.books.specs.Books.{Books, no_more}
-use Rattle.sheets.specs.Drafts.{Takes, TakesClass, TakesSecurity, TakesPair}
+use Rattle.books.specs.Books.{Books, Meaning, no_more}
+use Rattle.sheets.specs.Drafts.{TakesClass, TakesSecurity, TakesPair}
 use Rattle.sheets.specs.Sheets.{draft_rows}
 use Rattle.sheets.specs.declared.draft.Draft.{Draft}
 use Rattle.entries.specs.Entries.{of_class, of_security, of_pair, listed_class, listed_security, listed_pair, quantity_of}
 use Rattle.entries.proofs.Bringing.{class_numbers, security_numbers, pair_numbers, booking_numbers, class_listed, booking_quantity}
-use Rattle.entries.specs.Intakes.{Moves, Adds, Posts, table_nets, table_left}
+use Rattle.entries.specs.Desks.{entered}
+use Rattle.entries.specs.Intakes.{Adds, Posts, table_account}
 
 -- the fault of an answer is that of its questions
 pub answer_fault : (layer : Layer) (place : ℕ) (questions : Option Refusal) → result_err (answer {V = Unit {0}} layer place tt questions) ≡ fault_of layer place questions
 answer_fault layer place None = refl
 answer_fault layer place (Some refusal) = refl
 
-pub row_moves : (before : Draft) (place : ℕ) (refusal : Option Refusal) (more : Rows) (result : Result (Unit {0}) Fault) (after : Draft) → Takes draft_rows before place refusal more result after
-    → Moves draft_rows (fault_of Sheet place refusal) more before result after
-row_moves before place refusal more result after takes = record {
-  decided = ap result_err takes.decided ∙ answer_fault Sheet place refusal;
-  refused = takes.refused;
-  moved = takes.taken;
-}
+-- what a net table means
+abbrev pub table_meaning : Meaning NetTable
+table_meaning = record { account = table_account; posts = no_more; layer = Book }
 
-pub booking_moves : (before : NetTable) (security : ℕ) (quantity : ℤ) (result : Result (Unit {0}) Fault) (after : NetTable) → Books table_nets table_left no_more Book before security quantity result after
+pub booking_moves : (before : NetTable) (security : ℕ) (quantity : ℤ) (result : Result (Unit {0}) Fault) (after : NetTable) → Books table_meaning before (entered security quantity) result after
     → Posts security quantity before result after
 booking_moves before security quantity result after books = record {
   decided = ap result_err books.decided ∙ answer_fault Book security _;
   refused = books.refused;
-  moved = λ ok.
-      let nets = books.moved ok in
-      let left : table_left after ≡ table_left before - 1 = omega (arith, books.spent ok) in
-      λ i. record { nets = nets i; left = left i };
+  moved = books.moved;
 }
 
 -- ---- a call with what the record of some fields says
@@ -57,7 +53,7 @@ module _ (fields : List ℕ) (before : Draft) (result : Result (Unit {0}) Fault)
   class_adds x is class same takes =
       subst (λ row. Adds row before result after)
       (ap (λ c. of_class c (record { kind = x.kind; y = x.y; x = x.x; dep = x.dep })) same ∙ class_listed x ∙ ap listed_class (sym (class_numbers fields x is)))
-      (row_moves before class _ _ result after takes)
+      takes
 
   pub security_adds : (x : SecurityRecord) → fields ≡ text_of security_kind.widths (security_figures x) → (class security : ℕ) → class ≡ x.class → security ≡ x.security
       → TakesSecurity draft_rows before security (record { class = class; price = x.price; rate = x.rate; duration = x.duration }) result after
@@ -67,7 +63,7 @@ module _ (fields : List ℕ) (before : Draft) (result : Result (Unit {0}) Fault)
       (ap (λ s. of_security s (record { class = class; price = x.price; rate = x.rate; duration = x.duration })) same
       ∙ ap (λ c. of_security x.security (record { class = c; price = x.price; rate = x.rate; duration = x.duration })) same_Class
       ∙ ap listed_security (sym (security_numbers fields x is)))
-      (row_moves before security _ _ result after takes)
+      takes
 
   pub pair_adds : (x : PairRecord) → fields ≡ text_of pair_kind.widths (pair_figures x) → (first second : ℕ) → first ≡ x.first → second ≡ x.second
       → TakesPair draft_rows before (record { first = first; second = second; crt = x.crt }) result after
@@ -77,11 +73,11 @@ module _ (fields : List ℕ) (before : Draft) (result : Result (Unit {0}) Fault)
       (ap (λ c. of_pair (record { first = c; second = second; crt = x.crt })) same_first
       ∙ ap (λ c. of_pair (record { first = x.first; second = c; crt = x.crt })) same_second
       ∙ ap listed_pair (sym (pair_numbers fields x is)))
-      (row_moves before first _ _ result after takes)
+      takes
 
 pub booking_posts : (fields : List ℕ) (before : NetTable) (result : Result (Unit {0}) Fault) (after : NetTable) (x : BookingRecord) → fields ≡ text_of booking_kind.widths (booking_figures x)
     → (security : ℕ) (quantity : ℤ) → security ≡ x.security → quantity ≡ signed x.side x.quantity
-    → Books table_nets table_left no_more Book before security quantity result after
+    → Books table_meaning before (entered security quantity) result after
     → Posts (get_or (numbers_of booking_kind.widths fields) 0 0) (quantity_of (numbers_of booking_kind.widths fields)) before result after
 booking_posts fields before result after x is security quantity same_security same_quantity books =
     subst (λ n. Posts (get_or n 0 0) (quantity_of n) before result after) (sym (booking_numbers fields x is))

@@ -1,9 +1,9 @@
 -- What an intake does with a line that is a frame. Assumes nothing.
 use Rattle.std.proofs.Common.{◌≡◌, ℕ, true, List, take, drop, ℤ, Some, None, Ok, Err, Option, Result, sym, refl, ap, ◌∙◌, subst, arith}
+use Rattle.terms.specs.Refusals.{refused_at}
 use Rattle.terms.specs.declared.fault.Fault.{Fault}
-use Rattle.terms.specs.declared.layer.Layer.TheVariants.{Frame}
 use Rattle.terms.specs.declared.refusal.Refusal.TheVariants.{NotHexadecimal}
-use Rattle.terms.specs.Questions.{ask, fault_of}
+use Rattle.terms.specs.Questions.{ask, or_else}
 use Rattle.frames.specs.Frames.{digits_refusal, fields_refusal, hexadecimal, kind_refusal, line_refusal}
 use Rattle.frames.specs.Hex.{number_of}
 use Rattle.frames.specs.Kinds.{all_kinds, find_kind}
@@ -13,12 +13,11 @@ use Rattle.frames.proofs.Sound.{found_byte}
 use Rattle.lines.specs.declared.frame_line.FrameLine.{FrameLine}
 use Rattle.lines.specs.FrameLines.{Framed, kind_of, part_of}
 use Rattle.books.specs.declared.table.NetTable.{NetTable}
-use Rattle.positions.specs.Questions.{or_else}
 use Rattle.sheets.specs.declared.draft.Draft.{Draft}
 use Rattle.entries.specs.declared.intake.Intake.{Intake}
 use Rattle.entries.specs.declared.intake.Stage.{Stage}
 use Rattle.entries.specs.declared.intake.Stage.TheVariants.{Rows, Bookings}
-use Rattle.entries.specs.Desks.{Desk, booking_fault, entry_fault, in_order, line_fault_lem, out_of_order, row_fault, with_brought}
+use Rattle.entries.specs.Desks.{Desk, booking_fault, entered, entry_fault, in_order, line_fault_lem, out_of_order, row_fault, with_brought}
 use Rattle.entries.specs.Entries.{Row, Entry, row_entry, booking_entry, brought, entry_of}
 use Rattle.entries.specs.Intakes.{Adds, Posts, TakesLine, desk_of}
 
@@ -53,7 +52,7 @@ module _ (i : Intake) (line : List ℕ) (passes : line_refusal all_kinds line �
   d = desk_of i
 
   brings : (o : Option Entry) → entry_of line ≡ o → line_fault_lem d line ≡ entry_fault d o
-  brings o is = ap (λ q. or_else (fault_of Frame 0 q) (entry_fault d (entry_of line))) passes ∙ ap (entry_fault d) is
+  brings o is = ap (λ q. or_else (refused_at 0 q) (entry_fault d (entry_of line))) passes ∙ ap (entry_fault d) is
 
   -- a row goes to the draft
   pub row_taken : (row : Row) → entry_of line ≡ Some (row_entry row) → i.stage ≡ Rows → (result : Result (Unit {0}) Fault) (after : Draft) → Adds row i.draft result after
@@ -61,19 +60,19 @@ module _ (i : Intake) (line : List ℕ) (passes : line_refusal all_kinds line �
   row_taken row is stage result after adds = record {
     decided = adds.decided ∙ sym (brings (Some (row_entry row)) is ∙ ap (λ s. ask (in_order s (row_entry row)) out_of_order (row_fault d.rows row)) stage);
     refused = λ no. ap (λ x. record { stage = i.stage; draft = x; book = i.book }) (adds.refused no);
-    moved = λ ok. (λ j. record { stage = i.stage; rows = adds.moved ok j; nets = d.nets; left = d.left }) ∙ sym (ap (with_brought d) is);
+    moved = λ ok. (λ j. record { stage = i.stage; rows = adds.moved ok j; account = d.account }) ∙ sym (ap (with_brought d) is);
   }
 
   -- a booking goes to the book
   module _ (security : ℕ) (quantity : ℤ) (is : entry_of line ≡ Some (booking_entry security quantity)) where
-    books : line_fault_lem d line ≡ booking_fault d.nets d.left security quantity
-    books = brings (Some (booking_entry security quantity)) is ∙ ap (λ b. ask b out_of_order (booking_fault d.nets d.left security quantity)) (always i.stage security quantity)
+    books : line_fault_lem d line ≡ booking_fault d.account (entered security quantity)
+    books = brings (Some (booking_entry security quantity)) is ∙ ap (λ b. ask b out_of_order (booking_fault d.account (entered security quantity))) (always i.stage security quantity)
 
     pub booking_taken : (after : NetTable) → Posts security quantity i.book (Ok tt) after → TakesLine i line (Ok tt) (record { stage = Bookings; draft = i.draft; book = after })
     booking_taken after posts = record {
       decided = posts.decided ∙ sym books;
       refused = λ no. absurd (let z : ◌≡◌ {A = ℕ} 0 1 = cc in omega arith);
-      moved = λ ok. (λ j. record { stage = Bookings; rows = d.rows; nets = (posts.moved refl j).nets; left = (posts.moved refl j).left }) ∙ sym (ap (with_brought d) is);
+      moved = λ ok. (λ j. record { stage = Bookings; rows = d.rows; account = posts.moved refl j }) ∙ sym (ap (with_brought d) is);
     }
 
     pub booking_refused : (f : Fault) (after : NetTable) → Posts security quantity i.book (Err f) after → (result : Result (Unit {0}) Fault) → result ≡ Err f

@@ -1,4 +1,5 @@
-pub mod Entries
 pub mod Desks
+pub mod Entries
 pub mod Intakes
+pub mod LineFaults
 pub mod Reading

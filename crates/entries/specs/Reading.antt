@@ -1,12 +1,11 @@
 -- What the lines of a text make of a desk. Assumes nothing.
 use Rattle.std.specs.Prelude.{◌≡◌, ℕ, ◌+◌, List, [], ◌∷◌, Some, None, Ok, Err, Option, Result}
+use Rattle.terms.specs.Refusals.{refused_at}
 use Rattle.terms.specs.declared.fault.Fault.{Fault}
-use Rattle.terms.specs.declared.layer.Layer.TheVariants.{WholeText}
-use Rattle.terms.specs.Questions.{fault_of}
 use Rattle.lines.specs.Lines.{lines_of}
 use Rattle.lines.specs.Texts.{length_refusal}
 use Rattle.entries.specs.declared.intake.Intake.{Intake}
-use Rattle.entries.specs.Desks.{Desk, line_fault_lem, opened, with_line}
+use Rattle.entries.specs.Desks.{Desk, line_fault_lem, nothing_taken, with_line}
 use Rattle.entries.specs.Intakes.{desk_of}
 use Rattle.entries.specs.declared.line_fault.LineFault.{LineFault}
 
@@ -31,4 +30,4 @@ ReadsTo defined (Err e) = defined ≡ Err e
 
 -- the same of a whole text: one that is too long is refused before its lines, with no line
 abbrev pub after_text : List ℕ → Result Desk LineFault
-after_text text = or_later (fault_of WholeText 0 (length_refusal text)) 0 (after_lines 1 opened (lines_of text))
+after_text text = or_later (refused_at 0 (length_refusal text)) 0 (after_lines 1 nothing_taken (lines_of text))

@@ -1,5 +1,5 @@
 // The intake of a text, line by line.
-ghost use Rattle.entries.specs.Desks.{empty_desk, opened};
+ghost use Rattle.entries.specs.Desks.{empty_desk, nothing_taken};
 ghost use Rattle.entries.specs.Intakes.{TakesLine, desk_of};
 ghost use Rattle.std.specs.Prelude.{◌≡◌};
 
@@ -9,10 +9,9 @@ use lines::frame_line::FrameLine;
 use lines::part::Part;
 use sheets::draft::Draft;
 use terms::fault::Fault;
-use terms::layer::Layer;
 use terms::refusal::Refusal;
 
-// The rows of the sheet come first, then the bookings.
+/// The rows of the sheet come first, then the bookings.
 // Kept: a rule of the project: the intake matches on its stage and the kind of line at once, so that a stage is a value, and
 // not a type of intake with a `take` of its own.
 #[derive(Clone, Copy)]
@@ -21,7 +20,7 @@ pub enum Stage {
     Bookings,
 }
 
-// What the lines taken so far make up.
+/// What the lines taken so far make up.
 #[derive(Drop)]
 pub struct Intake {
     pub stage: Stage,
@@ -29,17 +28,10 @@ pub struct Intake {
     pub book: NetTable,
 }
 
-// The refusal of a line that brings no row and no booking, or a row after a booking.
-const OUT_OF_ORDER: Fault = Fault {
-    refusal: Refusal::LineOutOfOrder,
-    layer: Layer::WholeText,
-    place: 0,
-};
-
 impl Intake {
-    // No line is taken yet.
+    /// No line is taken yet.
     pub fn open() -> Self
-        ensures { desk_of result ≡ opened }
+        ensures { desk_of result ≡ nothing_taken }
     {
         Intake::empty(Stage::Rows)
     }
@@ -55,7 +47,7 @@ impl Intake {
         }
     }
 
-    // Takes one line. A refused line changes nothing.
+    /// Takes one line. A refused line changes nothing.
     pub fn take(&mut self, line: Part<'_>) -> Result<(), Fault>
         ensures { TakesLine self.old line.entry.digits.now result self.new }
     {
@@ -69,7 +61,7 @@ impl Intake {
             (Stage::Rows, FrameLine::Class(part)) => add_class(&mut self.draft, part.digits),
             (Stage::Rows, FrameLine::Security(part)) => add_security(&mut self.draft, part.digits),
             (Stage::Rows, FrameLine::Pair(part)) => add_pair(&mut self.draft, part.digits),
-            _ => Err(OUT_OF_ORDER),
+            _ => Err(Refusal::LineOutOfOrder.at(0)),
         }
     }
 }

@@ -1,20 +1,43 @@
 // A fault of a text.
-ghost use Rattle.std.specs.Prelude.{◌≡◌, [], ◌∷◌};
-ghost use Rattle.terms.specs.Numbers.{layer_number, refusal_number};
+ghost use Rattle.entries.specs.LineFaults.{line_fault_words};
+ghost use Rattle.std.specs.Prelude.{◌≡◌, [], ◌∷◌, Some};
+ghost use Rattle.terms.specs.Numbers.{layer_number};
+ghost use Rattle.terms.specs.Refusals.{refusal_number};
 
-use frames::record::FaultRecord;
+use frames::kinds::FaultRecord;
+use std::error::Error;
+use std::fmt;
 use terms::fault::Fault;
-use thiserror::Error;
 
-// The fault, and the number of its line, from 1; 0 where no line is at fault.
+/// The fault, and the number of its line, from 1; 0 where no line is at fault.
 // Kept: a rule of the project: a fault tells line 0 where there is none, as its frame does; frame and programs print that 0,
 // so that an Option would be put back into 0 at each use but one (gaps).
-#[derive(Clone, Copy, PartialEq, Eq, Debug, Error)]
-#[error("Refusal {}: {} (layer {}, {}; line {line}, place {})", u8::from(.fault.refusal), .fault.refusal, u8::from(.fault.layer), .fault.layer, .fault.place)]
+#[derive(Clone, Copy, PartialEq, Eq, Debug)]
 pub struct LineFault {
     pub line: u32,
     pub fault: Fault,
 }
+
+impl fmt::Display for LineFault {
+    ghost output = { λ refused. Some (line_fault_words refused) };
+
+    fn fmt<W: fmt::Write>(&self, f: &mut fmt::Formatter<W>) -> fmt::Result {
+        let line = self.line;
+        let Fault {
+            refusal,
+            layer,
+            place,
+        } = self.fault;
+        let number = u8::from(refusal);
+        let layer_number = u8::from(layer);
+        write!(
+            f,
+            "Refusal {number}: {refusal} (layer {layer_number}, {layer}; line {line}, place {place})"
+        )
+    }
+}
+
+impl Error for LineFault {}
 
 impl From<Fault> for LineFault {
     ghost from_gives = { λ fault refused. refused ≡ record { line = 0; fault = fault } };

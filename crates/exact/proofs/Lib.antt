@@ -1,4 +1,3 @@
 pub mod Small
 pub mod Summing
-pub mod Walking
 pub mod Telling

@@ -1,20 +1,12 @@
 -- The exact values and sums are small where no amount is above its limit. Assumes nothing.
-use Rattle.std.proofs.Common.{◌≡◌, ℕ, suc, ◌+◌, ◌*◌, ◌/◌, ◌<◌, ◌≤◌, Bool, true, false, cond, leb, ℤ, pos, negsuc, nat_abs, Some, None, Option, refl, subst, mul-le-mul_right, mul-le-mul, zero-mul, arith}
+use Rattle.std.proofs.Common.{◌≡◌, ℕ, suc, ◌+◌, ◌*◌, ◌/◌, ◌≤◌, Bool, true, false, cond, ℤ, pos, negsuc, nat_abs, Some, None, Option, refl, subst, mul-le-mul_right, mul-le-mul, arith}
 use borrow.Author.Differences.{up, down}
-use Rattle.std.proofs.lemmas.Bool.{leb-true}
-use Rattle.terms.specs.Limits.{security_count, amount_limit}
-use Rattle.terms.specs.declared.layer.Layer.TheVariants.{Deposit}
-use Rattle.terms.proofs.Answered.{asked as question_passed}
-use Rattle.terms.specs.declared.refusal.Refusal.TheVariants.{AmountTooLarge}
+use Rattle.terms.specs.Limits.{amount_limit}
 use Rattle.rules.specs.declared.rows.SecurityRow.{SecurityRow}
 use Rattle.rules.specs.Rows.{Rows, Lawful, LawfulSecurity, Present}
-use Rattle.rules.specs.Margin.{exact, amount, worth, in_class}
-use Rattle.rules.specs.Held.{held}
+use Rattle.rules.specs.Margin.{exact, amount_of, AmountsSmall, worth, in_class}
 use Rattle.rules.proofs.Sums.{sum_add, sum_const, sum_le}
 use Rattle.rules.proofs.Values.{factor_small, worth_none, exact_none}
-use Rattle.positions.specs.Questions.{row_refusal, security_refusal, security_fault, portfolio_fault}
-use Rattle.positions.proofs.Agreeing.{not_held}
-use Rattle.positions.proofs.Refusing.{all_pass, unrefused}
 use Rattle.exact.specs.Sizes.{product_limit, worth_limit}
 use Rattle.exact.specs.Classes.{share, sums_to}
 
@@ -22,25 +14,14 @@ use Rattle.exact.specs.Classes.{share, sums_to}
 pub fewer : (u q price rate : ℕ) → u ≤ q → q * price * rate ≤ product_limit → u * price * rate ≤ product_limit
 fewer u q price rate l h = omega (arith, mul-le-mul_right rate (mul-le-mul_right price l))
 
--- ---- what the questions say of a position
+-- ---- what the limit of an amount says of a position
 
 from_amount : (p : ℕ) → (p + 5000) / 10000 ≤ amount_limit → p ≤ product_limit
 from_amount p h = omega arith
 
-product_case : (n : ℤ) (r : SecurityRow) (t : Bool) → (t ≡ false → nat_abs n ≡ 0) → cond t (row_refusal (nat_abs n) (Some r)) None ≡ None →
-    nat_abs n * r.price * r.rate ≤ product_limit
-product_case n r true z e =
-    from_amount (nat_abs n * r.price * r.rate)
-    (leb-true (amount (nat_abs n) r.price r.rate) amount_limit ((question_passed (leb (amount (nat_abs n) r.price r.rate) amount_limit) None AmountTooLarge e).0))
-product_case n r false z e = rw (z refl, zero-mul, zero-mul) (omega arith)
-
-module _ (rows : Rows) (nets : ℕ → ℤ) (pass : portfolio_fault rows nets ≡ None) where
-  asked : (s : ℕ) → s < security_count → security_refusal rows nets s ≡ None
-  asked s l = unrefused Deposit s (security_refusal rows nets s) (all_pass security_count (security_fault rows nets) pass s l)
-
-  pub product_small : (s : ℕ) → s < security_count → (r : SecurityRow) → rows.securities s ≡ Some r → nat_abs (nets s) * r.price * r.rate ≤ product_limit
-  product_small s l r e =
-      product_case (nets s) r (held nets s) (not_held (nets s)) (subst (λ (o : Option SecurityRow). cond (held nets s) (row_refusal (nat_abs (nets s)) o) None ≡ None) e (asked s l))
+pub product_small : (rows : Rows) (nets : ℕ → ℤ) → AmountsSmall rows nets → (s : ℕ) (r : SecurityRow) → rows.securities s ≡ Some r → nat_abs (nets s) * r.price * r.rate ≤ product_limit
+product_small rows nets small s r e =
+    from_amount (nat_abs (nets s) * r.price * r.rate) (subst (λ (o : Option SecurityRow). amount_of (nat_abs (nets s)) o ≤ amount_limit) e (small s))
 
 -- ---- what a position is worth
 
@@ -58,9 +39,9 @@ shares_case rows s false n o h k = omega arith
 
 -- ---- the two sums of a class
 
-module _ (rows : Rows) (lawful : Lawful rows) (nets : ℕ → ℤ) (pass : portfolio_fault rows nets ≡ None) where
-  pub sums_small : (n : ℕ) → n ≤ security_count → (c : ℕ) → (sums_to rows nets n c).bought + (sums_to rows nets n c).sold ≤ n * worth_limit
-  sums_small n l c =
+module _ (rows : Rows) (lawful : Lawful rows) (nets : ℕ → ℤ) (small : AmountsSmall rows nets) where
+  pub sums_small : (n : ℕ) (c : ℕ) → (sums_to rows nets n c).bought + (sums_to rows nets n c).sold ≤ n * worth_limit
+  sums_small n c =
       let b : ℕ → ℕ = share rows (λ s. up (nets s)) c in
       let d : ℕ → ℕ = share rows (λ s. down (nets s)) c in
       omega (
@@ -68,5 +49,5 @@ module _ (rows : Rows) (lawful : Lawful rows) (nets : ℕ → ℤ) (pass : portf
         sum_add n b d,
         sum_const n worth_limit,
         sum_le n (λ s. b s + d s) (λ s. worth_limit)
-            (λ s k. shares_case rows s (in_class rows c s) (nets s) (rows.securities s) (lawful.of_securities s) (product_small rows nets pass s (omega arith))),
+            (λ s k. shares_case rows s (in_class rows c s) (nets s) (rows.securities s) (lawful.of_securities s) (product_small rows nets small s)),
       )

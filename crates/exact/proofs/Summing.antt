@@ -9,13 +9,12 @@ use Rattle.rules.specs.declared.position.PricedSecurity.{PricedSecurity}
 use Rattle.rules.specs.declared.rows.ClassRow.{ClassRow}
 use Rattle.rules.specs.declared.rows.SecurityRow.{SecurityRow}
 use Rattle.rules.specs.Rows.{Rows, Lawful, LawfulClass, Present}
-use Rattle.rules.specs.Margin.{exact, factor, factor_in, has_class, worth}
+use Rattle.rules.specs.Margin.{AmountsSmall, exact, factor, factor_in, has_class, worth}
 use Rattle.rules.proofs.Sums.{sum_more, sum_none}
 use Rattle.sheets.specs.Readings.{beside, with_kind}
-use Rattle.positions.specs.Questions.{portfolio_fault}
 use Rattle.exact.specs.declared.records.Sums.{Sums}
 use Rattle.exact.specs.Sizes.{worths_limit}
-use Rattle.exact.specs.Classes.{nothing, plus, worth_at, share, sums_to, Summed}
+use Rattle.exact.specs.Classes.{nothing, plus, worth_at, share, sums_to, SumsTo}
 use Rattle.exact.proofs.Small.{sums_small}
 
 -- ---- a security that has a row, and its class
@@ -65,10 +64,10 @@ plus_none : (a b : Sums) → b.bought ≡ 0 → b.sold ≡ 0 → plus a b ≡ a
 plus_none a b e f = ap₂ sums (omega arith) (omega arith)
 
 module _ (rows : Rows) (nets : ℕ → ℤ) where
-  pub summed_none : (xs : List Sums) → length xs ≡ class_count → ((c : ℕ) → c < class_count → get_or xs c nothing ≡ nothing) → Summed rows nets 0 xs
+  pub summed_none : (xs : List Sums) → length xs ≡ class_count → ((c : ℕ) → c < class_count → get_or xs c nothing ≡ nothing) → SumsTo rows nets 0 xs
   summed_none xs l h = record { long = l; each = λ c b. h c b ∙ sym (ap₂ sums (sum_none (share rows (λ s. up (nets s)) c)) (sum_none (share rows (λ s. down (nets s)) c))) }
 
-  pub summed_past : (s : ℕ) (xs : List Sums) → rows.securities s ≡ None → Summed rows nets s xs → Summed rows nets (s + 1) xs
+  pub summed_past : (s : ℕ) (xs : List Sums) → rows.securities s ≡ None → SumsTo rows nets s xs → SumsTo rows nets (s + 1) xs
   summed_past s xs e h =
       let none : (units : ℕ → ℕ) (c : ℕ) → share rows units c s ≡ 0 = λ units c. ap (λ (o : Option SecurityRow). cond (has_class c o) (worth exact rows (units s) o) 0) e in
       record {
@@ -96,7 +95,7 @@ module _ (rows : Rows) (nets : ℕ → ℤ) where
         (share_is rows (λ s. up (nets s)) c s r k p ∙ cond-false (eqb r.class c) here.bought 0 t)
         (share_is rows (λ s. down (nets s)) c s r k p ∙ cond-false (eqb r.class c) here.sold 0 t)
 
-    pub summed_more : (xs : List Sums) (x : Sums) → r.class < class_count → x ≡ plus (get_or xs r.class nothing) here → Summed rows nets s xs → Summed rows nets (s + 1) (set xs r.class x)
+    pub summed_more : (xs : List Sums) (x : Sums) → r.class < class_count → x ≡ plus (get_or xs r.class nothing) here → SumsTo rows nets s xs → SumsTo rows nets (s + 1) (set xs r.class x)
     summed_more xs x b e h = record {
       long = length-set xs r.class x ∙ h.long;
       each = λ c l. ⊎_elim
@@ -107,11 +106,11 @@ module _ (rows : Rows) (nets : ℕ → ℤ) where
     }
 
     -- the sums with it are small
-    pub room : Lawful rows → portfolio_fault rows nets ≡ None → s < security_count → r.class < class_count → (xs : List Sums) (w : Sums) → w ≡ here → Summed rows nets s xs →
+    pub room : Lawful rows → AmountsSmall rows nets → s < security_count → r.class < class_count → (xs : List Sums) (w : Sums) → w ≡ here → SumsTo rows nets s xs →
         ((get_or xs r.class nothing).bought + w.bought ≤ worths_limit) × ((get_or xs r.class nothing).sold + w.sold ≤ worths_limit)
-    room lawful pass l b xs w e h =
+    room lawful amounts l b xs w e h =
         let next : sums_to rows nets (s + 1) r.class ≡ plus (get_or xs r.class nothing) w = at_class ∙ ap₂ plus (sym (h.each r.class b)) (sym e) in
-        let small = sums_small rows lawful nets pass (s + 1) (omega arith) r.class in
+        let small = sums_small rows lawful nets amounts (s + 1) r.class in
         let bought = ap (λ (x : Sums). x.bought) next in
         let sold = ap (λ (x : Sums). x.sold) next in
         (omega (arith, small, bought, sold), omega (arith, small, bought, sold))

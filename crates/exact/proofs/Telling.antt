@@ -1,21 +1,22 @@
 -- From what the steps leave to the exact margin that is defined. Assumes nothing.
-use Rattle.std.proofs.Common.{◌≡◌, ℕ, zero, suc, ◌+◌, ◌<◌, ◌≤◌, min, List, get_or, ℤ, pos, ◌+ℤ◌, ◌-ℤ◌, nat_abs, None, sym, refl, ap, ◌∙◌, subst, ap₂, mul-le-mul, arith}
+use Rattle.std.proofs.Common.{◌≡◌, ℕ, zero, suc, ◌+◌, ◌<◌, ◌≤◌, min, List, length, get_or, ℤ, pos, ◌+ℤ◌, ◌-ℤ◌, nat_abs, sym, refl, ap, ◌∙◌, subst, ap₂, mul-le-mul, arith}
 use Rattle.terms.specs.Limits.{security_count, class_count}
-use Rattle.rules.specs.Sums.{sum_belowℤ}
+use Rattle.terms.specs.Sums.{sum_belowℤ}
 use Rattle.rules.specs.Rows.{Rows, Lawful}
-use Rattle.rules.specs.Margin.{exact, bought, sold, value_in, net_value, KSPK, DOLR, DSPAN}
+use Rattle.rules.specs.Margin.{AmountsSmall, exact, bought, sold, value_in, net_value, leftovers, credits, KSPK, DOLR, DSPAN}
 use Rattle.rules.proofs.Classes.{abs_minus, figure_small}
 use Rattle.rules.proofs.Walk.{Agree, credits_agree}
 use Rattle.sheets.specs.Readings.{rates_in}
-use Rattle.positions.specs.Questions.{portfolio_fault}
-use Rattle.deposits.proofs.Walking.{below, sounds}
+use Rattle.spreads.specs.declared.spread.Spread.{Spread}
+use Rattle.spreads.specs.Legs.{Fresh, Walked}
+use Rattle.spreads.proofs.Walking.{below, credits_small, sounds}
 use Rattle.exact.specs.declared.records.Class.{Class}
 use Rattle.exact.specs.declared.records.Sums.{Sums}
 use Rattle.exact.specs.Sizes.{worths_limit, owed_limit}
-use Rattle.exact.specs.Classes.{none, nothing, sums_to, Summed, risk_by, opened, left_of, Walked}
+use Rattle.exact.specs.Classes.{none, nothing, sums_to, SumsTo, risk_by, class_opened, left_of, walked}
 use Rattle.exact.specs.Owed.{Small, owed_in}
 use Rattle.exact.proofs.Small.{sums_small}
-use Rattle.exact.proofs.Walking.{roomy_walked}
+use Rattle.exact.specs.Legs.{lowered}
 
 sumℤ_same : (n : ℕ) (f g : ℕ → ℤ) → ((i : ℕ) → i < n → f i ≡ g i) → sum_belowℤ n f ≡ sum_belowℤ n g
 unfolding sum_belowℤ
@@ -40,15 +41,15 @@ risk_small rows h c s l =
       mul-le-mul (figure_small (λ r. r.dep) c (λ r l. l.dep_small) row (h.of_classes c)) lower,
     )
 
-module _ (rows : Rows) (lawful : Lawful rows) (nets : ℕ → ℤ) (pass : portfolio_fault rows nets ≡ None) (xs : List Sums) (h : Summed rows nets security_count xs) where
+module _ (rows : Rows) (lawful : Lawful rows) (nets : ℕ → ℤ) (amounts : AmountsSmall rows nets) (xs : List Sums) (h : SumsTo rows nets security_count xs) where
   sums_are : (c : ℕ) → c < class_count → get_or xs c nothing ≡ record { bought = bought exact rows nets c; sold = sold exact rows nets c }
   sums_are c l = h.each c l ∙ all_summed rows nets c
 
   pub small : (c : ℕ) → c < class_count → (get_or xs c nothing).bought + (get_or xs c nothing).sold ≤ worths_limit
   small c l =
-      subst (λ (s : Sums). s.bought + s.sold ≤ worths_limit) (sym (h.each c l)) (sums_small rows lawful nets pass security_count (omega arith) c)
+      subst (λ (s : Sums). s.bought + s.sold ≤ worths_limit) (sym (h.each c l)) (sums_small rows lawful nets amounts security_count c)
 
-  module _ (cs : List Class) (o : (c : ℕ) → c < class_count → get_or cs c none ≡ opened (rates_in (rows.classes c)) (get_or xs c nothing)) where
+  module _ (cs : List Class) (o : (c : ℕ) → c < class_count → get_or cs c none ≡ class_opened (rates_in (rows.classes c)) (get_or xs c nothing)) where
     pub left_small : (c : ℕ) → c < class_count → nat_abs (left_of cs c) ≤ worths_limit
     left_small c l =
         let s : Sums = get_or xs c nothing in
@@ -57,10 +58,18 @@ module _ (rows : Rows) (lawful : Lawful rows) (nets : ℕ → ℤ) (pass : portf
     starts : Agree class_count (left_of cs) (net_value exact rows nets)
     starts c l = ap (λ (w : Class). w.leftover) (o c l) ∙ ap (λ (s : Sums). pos s.bought -ℤ pos s.sold) (sums_are c l)
 
-    module _ (ws : List Class) (w : Walked cs rows.pairs ws) where
+    pub fresh : class_count ≤ length cs → Fresh (λ (w : Class). w.leftover) (λ (w : Class). w.credits) worths_limit none cs
+    fresh wide = record { wide = wide; credits = λ c l. ap (λ (w : Class). w.credits) (o c l); small = left_small }
+
+    module _ (ws : List Class) (ts : List Spread) (told : Walked exact (λ (w : Class). w.leftover) walked rows.pairs none cs ws ts) where
+      w : (c : ℕ) → c < class_count → get_or ws c none ≡ walked (get_or cs c none) (leftovers (left_of cs) rows.pairs c) (credits exact (left_of cs) rows.pairs c)
+      w = told.legs
+
       pub small_walked : ((c : ℕ) → c < class_count → (get_or cs c none).risk ≤ owed_limit) → (c : ℕ) → c < class_count → Small (get_or ws c none)
-      small_walked h c l =
-          (omega (arith, h c l, ap (λ (x : Class). x.risk) (w c l)), (roomy_walked cs rows.pairs ws w (sounds rows lawful) left_small c l).1)
+      small_walked h c l = (
+        omega (arith, h c l, ap (λ (x : Class). x.risk) (w c l)),
+        omega (arith, ap (λ (x : Class). x.credits) (w c l), credits_small exact 1 lowered (left_of cs) rows.pairs (sounds rows lawful) c, left_small c l),
+      )
 
       credits_are : (c : ℕ) → c < class_count → (get_or ws c none).credits ≡ KSPK exact rows nets c
       credits_are c l = ap (λ (x : Class). x.credits) (w c l) ∙ credits_agree class_count exact (left_of cs) (net_value exact rows nets) rows.pairs (below rows lawful) starts c

@@ -1,18 +1,15 @@
 -- The sums, leftovers and credits of the classes, as the steps of the exact margin leave them. Assumes nothing.
-use Rattle.std.specs.Prelude.{◌≡◌, ℕ, ◌+◌, ◌<◌, ◌≤◌, min, cond, List, length, ℤ, pos, ◌-ℤ◌, slice_index_or, slice_set, unsigned_abs}
+use Rattle.std.specs.Prelude.{◌≡◌, ℕ, ◌+◌, ◌<◌, min, cond, List, length, ℤ, pos, ◌-ℤ◌, slice_index_or, unsigned_abs}
 use borrow.Author.Differences.{up, down}
 use Rattle.terms.specs.Limits.{class_count}
 use Rattle.terms.specs.declared.choice.ClassKind.{ClassKind}
-use Rattle.rules.specs.declared.rows.PairRow.{PairRow}
 use Rattle.rules.specs.declared.rows.SecurityRow.{SecurityRow}
-use Rattle.rules.specs.Sums.{sum_below}
+use Rattle.terms.specs.Sums.{sum_below}
 use Rattle.rules.specs.Rows.{Rows}
-use Rattle.rules.specs.Margin.{exact, factor, in_class, worth, matched, towards, leftovers, credits}
+use Rattle.rules.specs.Margin.{exact, factor, in_class, worth}
 use Rattle.sheets.specs.Readings.{Figures}
-use Rattle.deposits.specs.Records.{Sound}
 use Rattle.exact.specs.declared.records.Class.{Class}
 use Rattle.exact.specs.declared.records.Sums.{Sums}
-use Rattle.exact.specs.Sizes.{worths_limit, part_limit}
 
 -- ---- what is bought and sold
 
@@ -40,7 +37,7 @@ abbrev pub sums_to : Rows → (ℕ → ℤ) → ℕ → ℕ → Sums
 sums_to rows nets n c = record { bought = sum_below n (share rows (λ s. up (nets s)) c); sold = sum_below n (share rows (λ s. down (nets s)) c) }
 
 -- these are the sums of all classes, over the securities below n
-pub record Summed (rows : Rows) (nets : ℕ → ℤ) (n : ℕ) (xs : List Sums) : Type 0 where
+pub record SumsTo (rows : Rows) (nets : ℕ → ℤ) (n : ℕ) (xs : List Sums) : Type 0 where
   pub long : length xs ≡ class_count
   pub each : (c : ℕ) → c < class_count → slice_index_or xs c nothing ≡ sums_to rows nets n c
 
@@ -58,8 +55,8 @@ abbrev pub none : Class
 none = record { risk = 0; leftover = pos 0; credits = 0 }
 
 -- a class before any pair is served: its whole net value is left, with no credit
-abbrev pub opened : Figures → Sums → Class
-opened rates s = record { risk = risk_by rates s; leftover = pos s.bought -ℤ pos s.sold; credits = 0 }
+abbrev pub class_opened : Figures → Sums → Class
+class_opened rates s = record { risk = risk_by rates s; leftover = pos s.bought -ℤ pos s.sold; credits = 0 }
 
 abbrev pub left_of : List Class → ℕ → ℤ
 left_of cs c = (slice_index_or cs c none).leftover
@@ -67,32 +64,3 @@ left_of cs c = (slice_index_or cs c none).leftover
 -- a class with another leftover and other credits
 abbrev pub walked : Class → ℤ → ℕ → Class
 walked w left credits = record { risk = w.risk; leftover = left; credits = credits }
-
--- a class of which m is matched, for a credit
-abbrev pub with_credit : ℕ → ℕ → Class → Class
-with_credit m credit w = walked w (towards w.leftover m) (w.credits + credit)
-
--- what a pair matches
-abbrev pub part : PairRow → List Class → ℕ
-part p cs = matched (left_of cs p.first) (left_of cs p.second)
-
--- the classes once a pair is served: two of them change
-abbrev pub served : PairRow → List Class → List Class
-served p cs =
-    let m = part p cs in
-    let credit = exact.credit p.crt m in
-    slice_set (slice_set cs p.first (with_credit m credit (slice_index_or cs p.first none))) p.second (with_credit m credit (slice_index_or cs p.second none))
-
--- a class whose figures leave room for credits
-abbrev pub Roomy : Class → Type 0
-Roomy w = (unsigned_abs w.leftover ≤ worths_limit) × (w.credits ≤ part_limit)
-
--- a pair that can be served: it is sound, and its two classes leave room
-pub record Servable (p : PairRow) (cs : List Class) : Type 0 where
-  pub sound : Sound p
-  pub first : Roomy (slice_index_or cs p.first none)
-  pub second : Roomy (slice_index_or cs p.second none)
-
--- from cs to ds: each class has its leftover and its credits, after the walk over the pairs
-abbrev pub Walked : List Class → List PairRow → List Class → Type 0
-Walked cs ps ds = (c : ℕ) → c < class_count → slice_index_or ds c none ≡ walked (slice_index_or cs c none) (leftovers (left_of cs) ps c) (credits exact (left_of cs) ps c)

@@ -1,6 +1,7 @@
 // The exact margin of a portfolio, over any book and any rate sheet: the steps of the deposit with no rounding.
 #![tactic(auto)]
 
+mod leg;
 pub mod margin;
 pub(crate) mod open;
 pub(crate) mod percentage;
@@ -8,4 +9,3 @@ pub(crate) mod records;
 pub(crate) mod sums;
 pub(crate) mod total;
 pub(crate) mod value;
-pub(crate) mod walk;

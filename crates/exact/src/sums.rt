@@ -1,13 +1,13 @@
 // The exact sums of the classes.
-ghost use Rattle.std.specs.Prelude.{◌≡◌, ◌+◌, ◌≤◌, None};
-ghost use Rattle.exact.specs.Classes.{Summed, plus};
+ghost use Rattle.std.specs.Prelude.{◌≡◌, ◌+◌, ◌≤◌};
+ghost use Rattle.exact.specs.Classes.{SumsTo, plus};
 ghost use Rattle.exact.specs.Sizes.{worths_limit};
-ghost use Rattle.positions.specs.Questions.{portfolio_fault};
+ghost use Rattle.rules.specs.Margin.{AmountsSmall};
 ghost use Rattle.terms.specs.Limits.{security_count};
 
 use crate::records::Sums;
 use crate::value::worth;
-use books::book::{Positions, net_of};
+use books::book::Positions;
 use sheets::reading::priced_security;
 use sheets::sheet::Sheet;
 use terms::limits::{CLASSES, SECURITIES};
@@ -26,14 +26,15 @@ fn add_worth(sums: &mut Sums, position: Sums)
 // Kept: a deposit keeps each position, whose sums and counts it tells, here only the sums are kept; a trait over both would need
 // a law for each of value, sum and bound a type, for bodies of a few lines.
 pub(crate) fn class_sums<P: Positions, S: Sheet>(book: &P, sheet: &S) -> [Sums; CLASSES]
-    requires { portfolio_fault (S.Sheet.rows sheet.now) (P.Positions.nets book.now) ≡ None }
-    ensures { Summed (S.Sheet.rows sheet.now) (P.Positions.nets book.now) security_count result }
+    requires { AmountsSmall (S.Sheet.rows sheet.now) (P.Positions.nets book.now) }
+    ensures { SumsTo (S.Sheet.rows sheet.now) (P.Positions.nets book.now) security_count result }
 {
+    let nets = book.all_nets();
     let mut sums = [Sums::default(); CLASSES];
-    // Kept: an iterator chain is no plainer: book and sheet are asked by the number itself.
+    // Kept: an iterator chain is no plainer: the sheet is asked by the number itself.
     for security in 0..SECURITIES as u16 {
         if let Some(priced) = priced_security(sheet, security) {
-            let position = worth(net_of(book, security), priced);
+            let position = worth(nets[security as usize], priced);
             add_worth(&mut sums[priced.row.class as usize], position);
         }
     }

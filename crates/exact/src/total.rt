@@ -3,7 +3,7 @@ ghost use Rattle.std.specs.Prelude.{◌≡◌, ℕ, ◌<◌, ◌≤◌, slice_in
 ghost use Rattle.exact.specs.Classes.{none};
 ghost use Rattle.exact.specs.Owed.{Small, owed_by, owed_in};
 ghost use Rattle.exact.specs.Sizes.{owed_limit};
-ghost use Rattle.rules.specs.Sums.{sum_belowℤ};
+ghost use Rattle.terms.specs.Sums.{sum_belowℤ};
 ghost use Rattle.terms.specs.Limits.{class_count};
 
 use crate::records::Class;

@@ -3,12 +3,12 @@ use Rattle.std.proofs.Common.{refl}
 use Rattle.rules.proofs.Tables.{table_lawful}
 use Rattle.rules.specs.Held.{held_in}
 use Rattle.rules.specs.Margin.{value_in, step}
-use Rattle.rules.specs.Sums.{sum_below, sum_belowℤ}
+use Rattle.terms.specs.Sums.{sum_below, sum_belowℤ}
 use Rattle.sheets.specs.Rates2020.{rates_2020}
 use Rattle.trials.specs.Trials.{count}
 use Rattle.positions.specs.Questions.{first_below}
 use Rattle.intake.specs.Answering.{held_lines}
-use Rattle.figures.specs.Figures.{FiguresHold, two_classes, three_classes}
+use Rattle.figures.specs.Figures.{FiguresHold, one_share, two_classes, three_classes}
 
 pub figures_hold : FiguresHold
 unfolding sum_below sum_belowℤ value_in held_in step count first_below held_lines
@@ -49,8 +49,23 @@ figures_hold = (
                                   (
                                     refl,
                                     (
-                                      refl,
-                                      ((refl, refl, refl), (refl, tt)),
+                                      table_lawful (one_share 1000000) refl,
+                                      (
+                                        refl,
+                                        (
+                                          table_lawful (one_share 1000001) refl,
+                                          (
+                                            refl,
+                                            (
+                                              (refl, refl, refl),
+                                              (
+                                                refl,
+                                                tt,
+                                              ),
+                                            ),
+                                          ),
+                                        ),
+                                      ),
                                     ),
                                   ),
                                 ),

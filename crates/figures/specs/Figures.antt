@@ -1,8 +1,13 @@
 -- Worked figures of the margin, in one table. Assumes nothing.
 use Rattle.std.specs.Prelude.{◌≡◌, ℕ, zero, suc, true, cond, List, [], ◌∷◌, map, ℤ, pos, negsuc, neg_ℤ, Some, None, Ok, codes, Option, ◌==◌}
+use Rattle.std.specs.Option.{option_map}
 use Prim.Native.String.{String}
 use Rattle.terms.specs.declared.choice.ClassKind.{ClassKind}
 use Rattle.terms.specs.declared.choice.ClassKind.TheVariants.{Liquidity, Duration}
+use Rattle.terms.specs.declared.fault.Fault.{Fault}
+use Rattle.terms.specs.Limits.{booking_limit, class_count, pair_limit}
+use Rattle.terms.specs.Numbers.{layer_number}
+use Rattle.terms.specs.Refusals.{refusal_number}
 use Rattle.rules.specs.declared.rows.ClassRow.{ClassRow}
 use Rattle.rules.specs.declared.rows.PairRow.{PairRow}
 use Rattle.rules.specs.declared.rows.SecurityRow.{SecurityRow}
@@ -11,11 +16,12 @@ use Rattle.rules.specs.Margin.{rounded, amount, position_value, DRR, DRS, DSWK, 
 use Rattle.rules.specs.Rows.{Every, Lawful}
 use Rattle.rules.specs.Tables.{Table, rows_of}
 use Rattle.sheets.specs.Rates2020.{rates_2020}
-use Rattle.terms.specs.Limits.{booking_limit}
 use Rattle.books.specs.declared.booking.Booking.{Booking}
+use Rattle.books.specs.Books.{account_of}
 use Rattle.tops.specs.declared.call.Call.TheVariants.{Book, Own}
 use Rattle.tops.specs.declared.call.TrialCall.TheVariants.{Commit}
 use Rattle.tops.specs.Tallies.{Tally, trial_rules, opened, decide, fed}
+use Rattle.deposits.specs.Deposits.{deposit_fault}
 use Rattle.lines.specs.Lines.{fed as lines_fed}
 use Rattle.intake.specs.Answering.{answer_bytes}
 
@@ -48,6 +54,14 @@ three_classes = record {
   pair_rows = pair 0 1 50000 ∷ pair 0 2 50000 ∷ [];
 }
 
+-- one class of shares, and security 1 alone in it, at a price in zloty
+abbrev pub one_share : ℕ → Table
+one_share price = record {
+  class_rows = shares_class 10000 2000 ∷ [];
+  security_rows = None ∷ share 0 price ∷ [];
+  pair_rows = [];
+}
+
 -- the net of each security, from security 0 on, and 0 past the last
 abbrev pub net_at : List ℤ → ℕ → ℤ
 net_at [] s = pos 0
@@ -62,6 +76,16 @@ pub record Portfolio : Type 0 where
 abbrev pub over : Table → List ℤ → Portfolio
 over sheet nets = record { sheet = sheet; nets = nets }
 
+-- ---- refusals
+
+-- what a fault tells: the number of its refusal, that of its layer, and its place
+abbrev pub numbers_of : Fault → ℕ × ℕ × ℕ
+numbers_of f = (refusal_number f.refusal, layer_number f.layer, f.place)
+
+-- the fault of the deposit of a portfolio, where there are places for all classes and pairs
+abbrev pub refusal_of : Portfolio → Option (ℕ × ℕ × ℕ)
+refusal_of p = option_map numbers_of (deposit_fault (rows_of p.sheet) (net_at p.nets) class_count pair_limit)
+
 -- a bond, or a share of class 0, at a price, a currency rate and a duration
 abbrev pub priced : ℕ → ℕ → ℕ → SecurityRow
 priced price rate duration = record { class = 0; price = price; rate = rate; duration = duration }
@@ -70,7 +94,7 @@ priced price rate duration = record { class = 0; price = price; rate = rate; dur
 
 -- a trial layer just opened over a book in which this net of security 0 is kept
 abbrev pub opened_over : ℤ → Tally
-opened_over net = opened trial_rules (λ s. cond (s == 0) net (pos 0)) booking_limit
+opened_over net = opened trial_rules (account_of (λ s. cond (s == 0) net (pos 0)) booking_limit)
 
 -- so much of security 0
 abbrev pub of_first : ℤ → Booking
@@ -94,8 +118,10 @@ pub data Figure : Type 0 where
   amount_is : ℕ → ℕ → ℕ → ℕ → Figure
   -- A and V of so many units of a security in a class of this kind
   values : ℕ → SecurityRow → ClassKind → ℕ → ℕ → Figure
-  -- such a position is refused, since its A is above the limit
-  too_large : ℕ → SecurityRow → ClassKind → Figure
+  -- the deposit of a portfolio is accepted
+  accepted : Portfolio → Figure
+  -- the deposit of a portfolio is refused: the number of the refusal, that of the layer, and the place
+  refused : Portfolio → ℕ → ℕ → ℕ → Figure
   -- a net below, a quantity booked on trial, and the net below after the commit; neither call is refused
   committed : ℤ → ℤ → ℤ → Figure
   -- the answer to a text of these lines is these lines
@@ -120,11 +146,12 @@ Holds (owes p dspan classes securities pairs) =
     × (pairs_held (rows_of p.sheet) (net_at p.nets) ≡ pairs)
 Holds (amount_is q price rate a) = amount q price rate ≡ a
 Holds (values q row kind a v) = position_value q row kind ≡ Some (record { units = a }, record { units = v })
-Holds (too_large q row kind) = position_value q row kind ≡ None
+Holds (accepted p) = refusal_of p ≡ None
+Holds (refused p number layer place) = refusal_of p ≡ Some (number, layer, place)
 Holds (committed net quantity after) =
     (decide trial_rules (opened_over net) (Book (of_first quantity)) ≡ Ok tt)
     × (decide trial_rules (trialled net quantity) (Own Commit) ≡ Ok tt)
-    × ((fed trial_rules (trialled net quantity) (Own Commit) true).kept 0 ≡ after)
+    × (((fed trial_rules (trialled net quantity) (Own Commit) true).kept 0).net ≡ after)
 Holds (answered lines told) = answer_bytes (bytes_of lines) ≡ bytes_of told
 
 -- the two bonds of the fixed table, one bought and the other sold
@@ -140,6 +167,10 @@ share_spread = over two_classes (pos 100 ∷ negsuc 99 ∷ [])
 
 abbrev pub small_spread : Portfolio
 small_spread = over three_classes (pos 1 ∷ negsuc 0 ∷ negsuc 0 ∷ [])
+
+-- the largest net of security 1, at a price
+abbrev pub large_position : ℕ → Portfolio
+large_position price = over (one_share price) (pos 0 ∷ pos 100000000 ∷ [])
 
 -- the text of the two bonds, one bought and the other sold
 abbrev pub bond_lines : List String
@@ -157,6 +188,7 @@ bond_answer =
     ∷ "5401000200000000000014F3DB"
     ∷ []
 
+-- Limits stand here as the numbers that they are: under a name a figure would hold at any limit.
 abbrev pub figures : List Figure
 figures =
     lawful rates_2020
@@ -177,7 +209,10 @@ figures =
     ∷ amount_is 1 1 15000 2
     ∷ amount_is 1 1 4999 0
     ∷ values 100000000 (priced 1000000 10000 1000000) Liquidity 100000000000000 100000000000000
-    ∷ too_large 100000000 (priced 1000001 10000 1000000) Liquidity
+    ∷ lawful (one_share 1000000)
+    ∷ accepted (large_position 1000000)
+    ∷ lawful (one_share 1000001)
+    ∷ refused (large_position 1000001) 22 5 1
     ∷ committed (neg_ℤ (pos 100000000)) (pos 200000000) (pos 100000000)
     ∷ answered bond_lines bond_answer
     ∷ []

@@ -3,11 +3,13 @@
 
 mod example;
 mod portfolio;
+mod sizes;
 mod strays;
 mod table;
 mod told;
 
-use crate::example::both_portfolios;
+use crate::example::whole_example;
+use crate::sizes::sizes;
 use crate::strays::strays;
 use crate::table::proved_figures;
 
@@ -16,6 +18,8 @@ fn main(rt: HostRuntime) -> anyhow::Result<()> {
         "figures proved under the definitions: {}",
         proved_figures()
     )?;
-    both_portfolios(&rt)?;
-    strays(&rt)
+    whole_example(&rt)?;
+    strays(&rt)?;
+    sizes(&rt)?;
+    Ok(())
 }

@@ -1,6 +1,4 @@
-// Bookings on a net table, and what a deposit tells of them.
-use books::book::Book;
-use books::booking::Booking;
+// What a deposit tells of a book.
 use books::table::NetTable;
 use deposits::deposit::deposit;
 use deposits::records::{ClassMargin, Match, Summary};
@@ -16,15 +14,11 @@ pub(crate) struct Told {
     pub(crate) summary: Summary,
 }
 
-// The deposit of these bookings by the rates of a sheet.
-pub(crate) fn deposit_of<S: Sheet>(bookings: &[Booking], sheet: &S) -> Result<Told, Fault> {
-    let mut book = NetTable::open();
-    for booking in bookings {
-        book.book(*booking)?;
-    }
+// The deposit of a book by the rates of a sheet.
+pub(crate) fn deposit_of<S: Sheet>(book: &NetTable, sheet: &S) -> Result<Told, Fault> {
     let mut classes = [ClassMargin::NONE; CLASSES];
     let mut places = [Match::NONE; PAIRS];
     let mut matches = List::over(&mut places);
-    let summary = deposit(&book, sheet, &mut classes, &mut matches)?;
+    let summary = deposit(book, sheet, &mut classes, &mut matches)?;
     Ok(Told { classes, summary })
 }

@@ -1,9 +1,11 @@
 // Where grosz go astray: figures that another order of the steps, or another rounding, would tell otherwise.
-use crate::example::valued;
+use crate::example::bond;
 use crate::portfolio::deposit_of;
 use crate::told::say;
 use anyhow::Context;
+use books::book::Book;
 use books::booking::Booking;
+use books::table::NetTable;
 use rules::position::PricedSecurity;
 use rules::rows::{ClassRow, PairRow, SecurityRow};
 use sheets::draft::Draft;
@@ -14,12 +16,16 @@ use terms::fault::Fault;
 use terms::limits::DURATION_ONE;
 use wording::units::{Amount, Money};
 
-// So many of the first bond of the example.
-fn first_bond(quantity: i64) -> Booking {
-    Booking {
-        security: 0,
-        quantity,
+// A net table with so much of each of these securities.
+fn booked(quantities: &[(u16, i64)]) -> Result<NetTable, Fault> {
+    let mut book = NetTable::open();
+    for (security, quantity) in quantities {
+        book.book(Booking {
+            security: *security,
+            quantity: *quantity,
+        })?;
     }
+    Ok(book)
 }
 
 // A share of a class, at a price and a currency rate.
@@ -57,18 +63,16 @@ fn three_classes() -> Result<RateSheet, Fault> {
 
 // What class 0 owes with one share of it bought, and one of each other sold.
 fn credited() -> Result<Money, Fault> {
-    let bookings = [(0, 1), (1, -1), (2, -1)].map(|(security, quantity)| Booking {
-        security,
-        quantity,
-    });
-    let told = deposit_of(&bookings, &three_classes()?)?;
+    let book = booked(&[(0, 1), (1, -1), (2, -1)])?;
+    let told = deposit_of(&book, &three_classes()?)?;
     Ok(Money(told.classes[0].dolr.grosz()))
 }
 
 // V of 1000 of the first bond, rounded once, and as it would be if that of one bond were rounded first.
 fn bond_values(rt: &HostRuntime) -> anyhow::Result<()> {
-    let (_, whole) = valued(first_bond(1_000))?;
-    let (_, unit) = valued(first_bond(1))?;
+    let first = bond(0)?;
+    let (_, whole) = first.valuation(1_000).context("A is too large")?;
+    let (_, unit) = first.valuation(1).context("A is too large")?;
     say(
         rt,
         "  V of 1000 of bond 0, rounded once",
@@ -87,7 +91,7 @@ fn bond_values(rt: &HostRuntime) -> anyhow::Result<()> {
 pub(crate) fn strays(rt: &HostRuntime) -> anyhow::Result<()> {
     println!(rt; "where grosz go astray")?;
     bond_values(rt)?;
-    let one_bond = deposit_of(&[first_bond(1_000)], &DurationRates2020)?;
+    let one_bond = deposit_of(&booked(&[(0, 1_000)])?, &DurationRates2020)?;
     say(
         rt,
         "  DSPAN of portfolio 2, each part to nearest",

@@ -6,9 +6,9 @@ mod tests {
     use frames::codec::{read, write};
     use frames::frame::Frame;
     use frames::kinds::{
-        BookingFrame, ClassFrame, DepositFrame, FaultFrame, PairFrame, SecurityFrame, TotalFrame,
+        BookingFrame, BookingRecord, ClassFrame, DepositFrame, FaultFrame, PairFrame,
+        SecurityFrame, TotalFrame,
     };
-    use frames::record::BookingRecord;
     use std::test::Fail;
     use terms::choice::{ClassKind, Side};
 

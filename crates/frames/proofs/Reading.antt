@@ -4,11 +4,11 @@ use Rattle.std.proofs.ByRecursion.{All-append, All-take, All-drop}
 use Rattle.std.proofs.lemmas.List.{take_at, drop_at, length-take-le}
 use Rattle.std.proofs.lemmas.Bool.{and_parts, eq-eqb, eqb-true, leb-true}
 use Rattle.std.specs.Result.{result_err}
+use Rattle.terms.specs.Refusals.{refused_at}
 use Rattle.terms.specs.declared.fault.Fault.{Fault}
-use Rattle.terms.specs.declared.layer.Layer.TheVariants.{Frame}
 use Rattle.terms.specs.declared.refusal.Refusal.{Refusal}
 use Rattle.terms.specs.declared.refusal.Refusal.TheVariants.{NotHexadecimal, WrongLength, UnknownChoice}
-use Rattle.terms.specs.Questions.{ask, fault_of}
+use Rattle.terms.specs.Questions.{ask}
 use Rattle.terms.proofs.Answered.{asked}
 use Rattle.frames.specs.Fields.{text_of, numbers_of, carries, bytes}
 use Rattle.frames.specs.Frames.{Reads, choice_known, choice_lawful, digits_refusal, fields_refusal, frame_fault, hexadecimal, kind_refusal, line_of, line_refusal}
@@ -16,7 +16,7 @@ use Rattle.frames.specs.Hex.{value_of, are_digits, number_of, digits_of}
 use Rattle.frames.specs.Kinds.{Kind, find_kind}
 use Rattle.frames.proofs.Framing.{is_hexadecimal}
 use Rattle.frames.specs.Numbers.{hex_from, hex_digits, hex_digits_of, length_digits_of, number_digits_of, digits_of_number}
-use Rattle.frames.proofs.Sound.{Sound}
+use Rattle.frames.proofs.Sound.{Sound, found_byte}
 use Rattle.frames.specs.Texts.{numbers_text, text_numbers, carried_numbers, length_text, length_line, hex_text}
 
 pub not_both : {R : Type 0} (o : Option R) (e : R) → o ≡ Some e → o ≡ None → ⊥
@@ -28,14 +28,14 @@ module _ {R : Type 0} (text : R → List ℕ) (questions : List ℕ → Option R
   refused e r is_r is = record {
     back = λ x same. absurd (not_both (questions line) e is (ap questions same ∙ passes x));
     only = λ x same. let z : ◌≡◌ {A = ℕ} 0 1 = cc in absurd (omega arith);
-    decided = ap result_err is_r ∙ sym (ap (fault_of Frame 0) is);
+    decided = ap result_err is_r ∙ sym (ap (refused_at 0) is);
   }
 
   pub accepted : ((x y : R) → text x ≡ text y → x ≡ y) → (x : R) → questions line ≡ None → line ≡ text x → Reads text (questions line) line (Ok x)
   accepted told x is same = record {
     back = λ y other. ap Ok (told x y (sym same ∙ other));
     only = λ y other. let equal : x ≡ y = cc in same ∙ ap text equal;
-    decided = sym (ap (fault_of Frame 0) is);
+    decided = sym (ap (refused_at 0) is);
   }
 
 -- the fields of a line are digits where the line is hexadecimal
@@ -128,6 +128,26 @@ module _ {R : Type 0} (k : Kind) (ok : Sound k) (figures : R → List ℕ)
         line_questions line (is_hexadecimal line digits even two) (sym (ap number_of first ∙ number_digits_of 2 k.byte ok.byte))
         ∙ ap (fields_refusal k) rest ∙ fields_pass x
 
+    -- no two records have one line
+    pub whole_told : (x y : R) → whole x ≡ whole y → x ≡ y
+    whole_told x y e =
+        let rest = λ (z : R). drop_at (digits_of 2 k.byte) (text z) 2 (length_digits_of 2 k.byte) in
+        text_told x y (sym (rest x) ∙ ap (drop 2) e ∙ rest y)
+
+    -- a line of this kind that passes every question is the line of a record
+    pub line_made : (line : List ℕ) → line_refusal kinds line ≡ None → find_kind kinds (number_of (take 2 line)) ≡ Some k → (x : R) × (line ≡ whole x)
+    line_made line passes found =
+        let fields = drop 2 line in
+        let first = asked (hexadecimal line) (kind_refusal (find_kind kinds (number_of (take 2 line))) fields) NotHexadecimal passes in
+        let passed : fields_refusal k fields ≡ None = sym (ap (λ o. kind_refusal o fields) found) ∙ first.1 in
+        let digits = fields_digits line first.0 in
+        let size = long fields digits passed in
+        let x = made (numbers_of k.widths fields) (carried_numbers k.widths fields (hex_from fields digits) size) (sym (ok.choice fields) ∙ choice fields digits passed) in (
+          x.0,
+          line_parts line k.byte first.0 (sym (found_byte kinds (number_of (take 2 line)) k found))
+              ∙ ap (λ l. digits_of 2 k.byte ++ l) (sym (text_numbers k.widths fields (hex_from fields digits) size) ∙ ap (text_of k.widths) (sym x.1)),
+        )
+
     pub line_refused : (line : List ℕ) (e : Refusal) (r : Result R Fault) → r ≡ Err (frame_fault e) → line_refusal kinds line ≡ Some e → Reads whole (line_refusal kinds line) line r
     line_refused line e r is_r is = refused whole (line_refusal kinds) line_pass line e r is_r is
 
@@ -136,7 +156,7 @@ module _ {R : Type 0} (k : Kind) (ok : Sound k) (figures : R → List ℕ)
     line_reads line fields h is is_fields r reads = record {
       back = λ x e. reads.back x (is_fields ∙ ap (drop 2) e ∙ drop_at (digits_of 2 k.byte) (text x) 2 (length_digits_of 2 k.byte));
       only = λ x e. line_parts line k.byte h is ∙ ap (λ l. digits_of 2 k.byte ++ l) (sym is_fields ∙ reads.only x e);
-      decided = reads.decided ∙ ap (fault_of Frame 0)
+      decided = reads.decided ∙ ap (refused_at 0)
           (ap (digits_refusal k) is_fields
           ∙ ap (λ b. ask b NotHexadecimal (fields_refusal k (drop 2 line))) (fields_digits line h)
           ∙ sym (line_questions line h is));

@@ -1,11 +1,11 @@
 -- A frame as a line of text, and the questions put to a line. Assumes nothing.
 use Rattle.std.specs.Prelude.{◌≡◌, ℕ, ◌*◌, ◌%◌, Bool, not, ◌&&◌, ◌||◌, List, ◌++◌, length, take, drop, Some, None, Ok, Option, Result, ◌==◌, nat_le, slice_index}
 use Rattle.std.specs.Result.{result_err}
+use Rattle.terms.specs.Refusals.{fault_at, refused_at}
 use Rattle.terms.specs.declared.fault.Fault.{Fault}
-use Rattle.terms.specs.declared.layer.Layer.TheVariants.{Frame}
 use Rattle.terms.specs.declared.refusal.Refusal.{Refusal}
 use Rattle.terms.specs.declared.refusal.Refusal.TheVariants.{NotHexadecimal, UnknownKind, WrongLength, UnknownChoice}
-use Rattle.terms.specs.Questions.{ask, fault, fault_of}
+use Rattle.terms.specs.Questions.{ask}
 use Rattle.frames.specs.Choices.{is_choice}
 use Rattle.frames.specs.Fields.{text_of, bytes}
 use Rattle.frames.specs.Hex.{are_digits, number_of, digits_of}
@@ -48,11 +48,11 @@ digits_refusal k fields = ask (are_digits fields) NotHexadecimal (fields_refusal
 
 -- the fault of a line
 abbrev pub frame_fault : Refusal → Fault
-frame_fault refusal = fault Frame 0 refusal
+frame_fault refusal = fault_at 0 refusal
 
 -- What reading a line tells, where `text` is what is written of a record: a line written of a record reads back as that
 -- record, a line that reads as a record is the one written of it, and the first question answered no is told.
 pub record Reads {R : Type 0} (text : R → List ℕ) (questions : Option Refusal) (line : List ℕ) (r : Result R Fault) : Type 0 where
   pub back : (x : R) → line ≡ text x → r ≡ Ok x
   pub only : (x : R) → r ≡ Ok x → line ≡ text x
-  pub decided : result_err r ≡ fault_of Frame 0 questions
+  pub decided : result_err r ≡ refused_at 0 questions

@@ -1,14 +1,13 @@
 // Frames of every kind are read and written here, once.
-ghost use Rattle.std.specs.Prelude.{◌≡◌, ◌+◌, ◌*◌, ◌<◌, ◌≤◌, true, false, [], ◌∷◌, length, take, drop, MatchOption, MatchResult, ◌≢◌};
+ghost use Rattle.std.specs.Prelude.{◌≡◌, ◌+◌, ◌-◌, ◌*◌, ◌<◌, ◌≤◌, true, false, [], ◌∷◌, length, take, drop, IfOk, MatchOption, MatchResult, ◌≢◌};
 ghost use Rattle.std.specs.List.{AllByRecursion};
-ghost use Rattle.terms.specs.declared.layer.Layer.TheVariants.{Frame as InFrame};
+ghost use Rattle.terms.specs.Refusals.{answer_at};
 ghost use Rattle.terms.specs.declared.refusal.Refusal.TheVariants.{NotHexadecimal};
-ghost use Rattle.terms.specs.Questions.{answer};
 ghost use Rattle.frames.specs.Choices.{is_choice};
 ghost use Rattle.frames.specs.Fields.{text_of, numbers_of, bytes};
 ghost use Rattle.frames.specs.Frames.{Reads, digits_refusal, fields_refusal, frame_fault, hexadecimal, line_of, line_refusal};
 ghost use Rattle.frames.specs.Hex.{are_digits, number_of};
-ghost use Rattle.frames.specs.Written.{written, written_answer};
+ghost use Rattle.frames.specs.Written.{ReadsBack, written, written_answer};
 
 use crate::digits::Digits;
 use crate::frame::{Frame, MOST_FIELDS};
@@ -16,19 +15,18 @@ use crate::hex::{all_digits, byte, number, write_number};
 use arrayvec::ArrayVec;
 use std::convert::AsSlice;
 use terms::fault::Fault;
-use terms::layer::Layer;
 use terms::refusal::Refusal;
 
-// The kind byte of a hexadecimal line, and the digits of its fields.
+/// The kind byte of a hexadecimal line, and the digits of its fields.
 // Kept: no plainer: 30 alone is asked here, so that the byte may be no kind's; the enum of the kinds is `FrameLine`.
 pub fn split(line: &[u8]) -> Result<(u8, Digits<'_>), Fault>
     ensures { MatchResult result (λ p. (hexadecimal line.now ≡ true) × (p.0 ≡ number_of (take 2 line.now)) × (p.1.text.now ≡ drop 2 line.now)) (λ f. (hexadecimal line.now ≡ false) × (f ≡ frame_fault NotHexadecimal)) }
 {
     if line.len() % 2 != 0 || !all_digits(line) {
-        return Err(Layer::Frame.fault(0, Refusal::NotHexadecimal));
+        return Err(Refusal::NotHexadecimal.at(0));
     }
     let [high, low, fields @ ..] = line else {
-        return Err(Layer::Frame.fault(0, Refusal::NotHexadecimal));
+        return Err(Refusal::NotHexadecimal.at(0));
     };
     Ok((byte(*high, *low) as u8, Digits { text: fields }))
 }
@@ -45,15 +43,16 @@ fn has_choice(fields: &[u8]) -> bool
     }
 }
 
-// Whether digits are the fields of a frame of one kind.
+/// Whether digits are the fields of a frame of one kind.
+#[tactic(auto, using(crate::proofs::Sound::small_listed, crate::proofs::Sound::wide_listed))]
 pub fn check<F: Frame>(fields: &[u8]) -> Result<(), Fault>
-    ensures { result ≡ answer InFrame 0 tt (fields_refusal F.kind fields.now) }
+    ensures { result ≡ answer_at 0 tt (fields_refusal F.kind fields.now) }
 {
     if fields.len() != 2 * (F::LENGTH - 1) {
-        return Err(Layer::Frame.fault(0, Refusal::WrongLength));
+        return Err(Refusal::WrongLength.at(0));
     }
     if F::CHOICE && !has_choice(fields) {
-        return Err(Layer::Frame.fault(0, Refusal::UnknownChoice));
+        return Err(Refusal::UnknownChoice.at(0));
     }
     Ok(())
 }
@@ -78,6 +77,7 @@ fn read_numbers(widths: &[usize], fields: &[u8]) -> ArrayVec<u64, MOST_FIELDS>
 }
 
 // The record whose fields these digits are, if there is one.
+#[tactic(auto, using(crate::proofs::Sound::few_listed, crate::proofs::Sound::narrow_listed))]
 fn record<F: Frame>(fields: &[u8]) -> Option<F::Record>
     requires digits { are_digits fields.now ≡ true }
     requires size { length fields.now ≡ 2 * bytes F.kind.widths }
@@ -87,7 +87,7 @@ fn record<F: Frame>(fields: &[u8]) -> Option<F::Record>
     F::record_of(&numbers)
 }
 
-// The record whose fields these are.
+/// The record whose fields these are.
 pub fn read_fields<F: Frame>(digits: Digits<'_>) -> Result<F::Record, Fault>
     ensures { Reads (λ x. text_of F.kind.widths (F.figures x)) (digits_refusal F.kind digits.entry.text.now) digits.entry.text.now result }
 {
@@ -96,13 +96,13 @@ pub fn read_fields<F: Frame>(digits: Digits<'_>) -> Result<F::Record, Fault>
     Ok(record::<F>(fields).unwrap())
 }
 
-// The record whose frame this line is. A reader of one kind knows no other.
+/// The record whose frame this line is. A reader of one kind knows no other.
 pub fn read<F: Frame>(line: &[u8]) -> Result<F::Record, Fault>
     ensures { Reads (λ x. line_of F.kind (F.figures x)) (line_refusal (F.kind ∷ []) line.now) line.now result }
 {
     let (kind, digits) = split(line)?;
     if kind != F::KIND {
-        return Err(Layer::Frame.fault(0, Refusal::UnknownKind));
+        return Err(Refusal::UnknownKind.at(0));
     }
     read_fields::<F>(digits)
 }
@@ -132,6 +132,7 @@ fn write_line<F: Frame>(item: &F::Record, line: &mut [u8])
 }
 
 // Writes the frame of `item` and a line feed at the front of `memory`, which has room for both.
+#[tactic(auto, using(crate::proofs::Sound::small_listed, crate::specs::Texts::length_line))]
 fn fill<F: Frame>(item: &F::Record, memory: &mut [u8])
     requires { length (line_of F.kind (F.figures item.now)) < length memory.old }
     ensures { memory.new ≡ written (line_of F.kind (F.figures item.now)) memory.old }
@@ -142,22 +143,24 @@ fn fill<F: Frame>(item: &F::Record, memory: &mut [u8])
 }
 
 // How many digits the frame of `item` has.
-#[tactic(auto, using(crate::specs::Texts::length_line))]
+#[tactic(auto, using(crate::specs::Texts::length_line, crate::proofs::Sound::small_listed))]
 fn line_length<F: Frame>(item: &F::Record) -> usize
     ensures { result ≡ length (line_of F.kind (F.figures item.now)) }
 {
     2 * F::LENGTH
 }
 
-// Writes the frame of `item` and a line feed at the front of `memory`, and tells how many bytes these are.
+/// Writes the frame of `item` and a line feed at the front of `memory`, and tells how many bytes these are.
 // Kept: no plainer: the memory is the caller's, who writes on behind these bytes, and knows by the count where.
+#[tactic(auto, using(crate::proofs::Writes::read_back))]
 pub fn write<F: Frame>(item: &F::Record, memory: &mut [u8]) -> Result<usize, Fault>
     ensures told { result ≡ written_answer (line_of F.kind (F.figures item.now)) memory.old }
     ensures after { memory.new ≡ written (line_of F.kind (F.figures item.now)) memory.old }
+    ensures back { IfOk result (λ count. ReadsBack F.kind F.figures item.now (take (count - 1) memory.new)) }
 {
     let length = line_length::<F>(item);
     if memory.len() <= length {
-        return Err(Layer::Frame.fault(0, Refusal::LineMemoryTooShort));
+        return Err(Refusal::LineMemoryTooShort.at(0));
     }
     fill::<F>(item, memory);
     Ok(length + 1)

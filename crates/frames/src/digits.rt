@@ -2,7 +2,7 @@
 ghost use Rattle.std.specs.Prelude.{◌≡◌, true};
 ghost use Rattle.frames.specs.Hex.{are_digits};
 
-// A part of a text, all of it digits.
+/// A part of a text, all of it digits.
 #[derive(Clone, Copy)]
 pub struct Digits<'a> {
     pub text: &'a [u8],

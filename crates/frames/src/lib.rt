@@ -7,4 +7,3 @@ pub mod frame;
 mod hex;
 pub mod kinds;
 mod narrow;
-pub mod record;

@@ -1,3 +1,4 @@
 pub mod Copies
 pub mod Told
 pub mod Steps
+pub mod Lenders

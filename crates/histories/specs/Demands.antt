@@ -1,6 +1,7 @@
 -- What every deposit that is told keeps to. Assumes nothing.
-use Rattle.std.specs.Prelude.{◌≡◌, ℕ, ◌<◌, ℤ, pos, ◌≤ℤ◌, Some, None, Ok, Err, Result}
+use Rattle.std.specs.Prelude.{◌≡◌, ℕ, ◌<◌, ℤ, pos, ◌≤ℤ◌, Result}
 use Rattle.terms.specs.Limits.{class_count}
+use Rattle.terms.specs.Outcomes.{Answers}
 use Rattle.terms.specs.declared.fault.Fault.{Fault}
 use Rattle.rules.specs.Rows.{Rows}
 use Rattle.rules.specs.Margin.{rounded, net_value, DOLR}
@@ -24,6 +25,6 @@ pub record Demands (below rows : Rows) (nets : ℕ → ℤ) (t : Telling) : Type
 -- A call for a deposit, with so many class places and so much room for matches, is refused by the first question
 -- answered no, which would refuse it over the sheet below too; else its figures are the defined ones, and keep to the demands.
 abbrev pub Right : ℕ → ℕ → Rows → Rows → (ℕ → ℤ) → Result Telling Fault → Type 0
-Right places room below rows nets (Ok t) =
-    (deposit_fault rows nets places room ≡ None) × (deposit_fault below nets places room ≡ None) × Tells rows nets t × Demands below rows nets t
-Right places room below rows nets (Err f) = (deposit_fault rows nets places room ≡ Some f) × (deposit_fault below nets places room ≡ Some f)
+Right places room below rows nets r =
+    (deposit_fault below nets places room ≡ deposit_fault rows nets places room)
+    × Answers (deposit_fault rows nets places room) (λ t. Tells rows nets t × Demands below rows nets t) r

@@ -8,8 +8,8 @@ use deposits::records::{ClassMargin, Match, Summary};
 use std::array;
 use terms::limits::{CLASSES, PAIRS};
 
-// The summary, one record a class, and one match a pair at the front of as many places as a sheet has pairs at most, with
-// none in the places behind them.
+/// The summary, one record a class, and one match a pair at the front of as many places as a sheet has pairs at most, with
+/// none in the places behind them.
 // Kept: no plainer: an `Entry` is `Copy`, so that `List::read` reads a log, and the library's `ArrayVec` is not.
 #[derive(Clone, Copy)]
 pub struct Telling {

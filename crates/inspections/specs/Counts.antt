@@ -4,23 +4,13 @@ use Rattle.terms.specs.declared.refusal.Refusal.{Refusal}
 use Rattle.frames.specs.Frames.{line_refusal}
 use Rattle.frames.specs.Hex.{number_of}
 use Rattle.frames.specs.Kinds.{all_kinds}
-use Rattle.inspections.specs.declared.told.Told.{Told}
-use Rattle.inspections.specs.declared.told.Told.TheVariants.{Class, Security, Pair, Booking, Deposit, Total, Fault}
-
--- the kind byte of a kind of frame
-abbrev pub byte_of : Told → ℕ
-byte_of Class = 0x43
-byte_of Security = 0x53
-byte_of Pair = 0x50
-byte_of Booking = 0x42
-byte_of Deposit = 0x44
-byte_of Total = 0x54
-byte_of Fault = 0x46
+use Rattle.lines.specs.declared.frame_line.FrameKind.{FrameKind}
+use Rattle.lines.specs.FrameLines.{named_kind}
 
 -- the kind byte of what a line is told as, and 0 of a refused line
-abbrev pub told_byte : Option Told → ℕ
+abbrev pub told_byte : Option FrameKind → ℕ
 told_byte None = 0
-told_byte (Some told) = byte_of told
+told_byte (Some kind) = (named_kind kind).byte
 
 abbrev pub byte_told : Option Refusal → ℕ → ℕ
 byte_told None byte = byte

@@ -1,11 +1,24 @@
 // Frames in plain words.
+ghost use Rattle.frames.specs.Bookings.{booking_figures};
+ghost use Rattle.frames.specs.Classes.{class_figures};
+ghost use Rattle.frames.specs.Deposits.{deposit_figures};
+ghost use Rattle.frames.specs.Faults.{fault_figures};
+ghost use Rattle.frames.specs.Pairs.{pair_figures};
+ghost use Rattle.frames.specs.Securities.{security_figures};
+ghost use Rattle.frames.specs.Totals.{total_figures};
+ghost use Rattle.inspections.specs.Words.{booking_words, class_words, deposit_words, fault_words, pair_words, security_words, spoken_words, total_words};
+ghost use Rattle.inspections.specs.Named.{in_brackets, layer_named, refusal_named};
+ghost use Rattle.inspections.specs.Fields.{ReadAs, shown};
+ghost use Rattle.std.specs.Fmt.{DisplaysOnOk};
+ghost use Rattle.std.specs.Prelude.{◌≡◌, Some};
+ghost use Rattle.terms.specs.Numbers.{layer_words};
+ghost use Rattle.terms.specs.Refusals.{refusal_words};
+
 use frames::codec::read_fields;
 use frames::frame::Frame;
 use frames::kinds::{
-    BookingFrame, ClassFrame, DepositFrame, FaultFrame, PairFrame, SecurityFrame, TotalFrame,
-};
-use frames::record::{
-    BookingRecord, ClassRecord, DepositRecord, FaultRecord, PairRecord, SecurityRecord, TotalRecord,
+    BookingFrame, BookingRecord, ClassFrame, ClassRecord, DepositFrame, DepositRecord, FaultFrame,
+    FaultRecord, PairFrame, PairRecord, SecurityFrame, SecurityRecord, TotalFrame, TotalRecord,
 };
 use lines::frame_line::FrameLine;
 use lines::part::Fields;
@@ -15,12 +28,14 @@ use terms::layer::Layer;
 use terms::refusal::Refusal;
 use wording::units::{Duration, Money, Percent, Price};
 
-// A record in plain words.
+/// A record in plain words.
 // Kept: the records are of the crate frames, whose Display this crate may not write, so that a type around them prints.
 #[derive(Drop)]
 pub struct Words<R>(pub R);
 
 impl fmt::Display for Words<ClassRecord> {
+    ghost output = { λ words. Some (class_words (class_figures words.0)) };
+
     fn fmt<W: fmt::Write>(&self, f: &mut fmt::Formatter<W>) -> fmt::Result {
         let class = self.0.class;
         let kind = self.0.kind;
@@ -32,6 +47,8 @@ impl fmt::Display for Words<ClassRecord> {
 }
 
 impl fmt::Display for Words<SecurityRecord> {
+    ghost output = { λ words. Some (security_words (security_figures words.0)) };
+
     fn fmt<W: fmt::Write>(&self, f: &mut fmt::Formatter<W>) -> fmt::Result {
         let security = self.0.security;
         let class = self.0.class;
@@ -46,6 +63,8 @@ impl fmt::Display for Words<SecurityRecord> {
 }
 
 impl fmt::Display for Words<PairRecord> {
+    ghost output = { λ words. Some (pair_words (pair_figures words.0)) };
+
     fn fmt<W: fmt::Write>(&self, f: &mut fmt::Formatter<W>) -> fmt::Result {
         let first = self.0.first;
         let second = self.0.second;
@@ -55,6 +74,8 @@ impl fmt::Display for Words<PairRecord> {
 }
 
 impl fmt::Display for Words<BookingRecord> {
+    ghost output = { λ words. Some (booking_words (booking_figures words.0)) };
+
     fn fmt<W: fmt::Write>(&self, f: &mut fmt::Formatter<W>) -> fmt::Result {
         let security = self.0.security;
         let side = self.0.side;
@@ -64,6 +85,8 @@ impl fmt::Display for Words<BookingRecord> {
 }
 
 impl fmt::Display for Words<DepositRecord> {
+    ghost output = { λ words. Some (deposit_words (deposit_figures words.0)) };
+
     fn fmt<W: fmt::Write>(&self, f: &mut fmt::Formatter<W>) -> fmt::Result {
         let class = self.0.class;
         let drr = Money(self.0.drr);
@@ -79,6 +102,8 @@ impl fmt::Display for Words<DepositRecord> {
 }
 
 impl fmt::Display for Words<TotalRecord> {
+    ghost output = { λ words. Some (total_words (total_figures words.0)) };
+
     fn fmt<W: fmt::Write>(&self, f: &mut fmt::Formatter<W>) -> fmt::Result {
         // Kept: C, N and R stand one by one (a rule of the project); a type of them would be made to be printed.
         let classes = self.0.classes;
@@ -92,37 +117,80 @@ impl fmt::Display for Words<TotalRecord> {
     }
 }
 
-impl fmt::Display for Words<FaultRecord> {
+// What a number names, shown by its words in brackets; nothing where it names nothing.
+#[derive(Clone, Copy)]
+struct Named<T>(Option<T>);
+
+impl fmt::Display for Named<Refusal> {
+    ghost output = { λ named. Some (in_brackets refusal_words named.0) };
+
     fn fmt<W: fmt::Write>(&self, f: &mut fmt::Formatter<W>) -> fmt::Result {
-        let number = self.0.number;
-        let layer = self.0.layer;
-        let line = self.0.line;
-        let place = self.0.place;
-        write!(f, "fault: refusal {number}")?;
-        if let Ok(refusal) = Refusal::try_from(number) {
-            write!(f, " ({refusal})")?;
+        match self.0 {
+            Some(refusal) => write!(f, " ({refusal})"),
+            None => Ok(()),
         }
-        write!(f, ", layer {layer}")?;
-        if let Ok(layer) = Layer::try_from(layer) {
-            write!(f, " ({layer})")?;
-        }
-        write!(f, ", line {line}, place {place}")
     }
 }
 
-// A frame of a text.
+impl fmt::Display for Named<Layer> {
+    ghost output = { λ named. Some (in_brackets layer_words named.0) };
+
+    fn fmt<W: fmt::Write>(&self, f: &mut fmt::Formatter<W>) -> fmt::Result {
+        match self.0 {
+            Some(layer) => write!(f, " ({layer})"),
+            None => Ok(()),
+        }
+    }
+}
+
+#[tactic(auto, using(crate::proofs::Named::refusal_is))]
+fn named_refusal(number: u8) -> Named<Refusal>
+    ensures { result.0 ≡ refusal_named number }
+{
+    Named(Refusal::try_from(number).ok())
+}
+
+#[tactic(auto, using(crate::proofs::Named::layer_is))]
+fn named_layer(number: u8) -> Named<Layer>
+    ensures { result.0 ≡ layer_named number }
+{
+    Named(Layer::try_from(number).ok())
+}
+
+impl fmt::Display for Words<FaultRecord> {
+    ghost output = { λ words. Some (fault_words (fault_figures words.0)) };
+
+    fn fmt<W: fmt::Write>(&self, f: &mut fmt::Formatter<W>) -> fmt::Result {
+        let number = self.0.number;
+        let refusal = named_refusal(number);
+        let layer_number = self.0.layer;
+        let layer = named_layer(layer_number);
+        let line = self.0.line;
+        let place = self.0.place;
+        write!(
+            f,
+            "fault: refusal {number}{refusal}, layer {layer_number}{layer}, line {line}, place {place}"
+        )
+    }
+}
+
+/// A frame of a text.
 #[derive(Clone, Copy)]
 pub struct Spoken<'a>(pub FrameLine<'a>);
 
 // What the fields of a frame of one kind say.
-fn words_of<F: Frame>(part: Fields<'_>) -> Result<Words<F::Record>, Fault> {
+fn words_of<F: Frame>(part: Fields<'_>) -> Result<Words<F::Record>, Fault>
+    ensures { ReadAs F.kind (λ words. F.figures words.0) part.entry.digits.text.now result }
+{
     Ok(Words(read_fields::<F>(part.digits)?))
 }
 
 fn say<T: fmt::Display + Drop, W: fmt::Write>(
     words: Result<T, Fault>,
     f: &mut fmt::Formatter<W>,
-) -> fmt::Result {
+) -> fmt::Result
+    ensures { DisplaysOnOk W.write_str_gives f.old result (shown T.output words) f.new }
+{
     match words {
         Ok(words) => write!(f, "{words}"),
         Err(_) => f.write_str("not a frame"),
@@ -130,6 +198,9 @@ fn say<T: fmt::Display + Drop, W: fmt::Write>(
 }
 
 impl fmt::Display for Spoken<'_> {
+    ghost output = { λ spoken. Some (spoken_words spoken.0) };
+
+    #[tactic(auto, using(crate::proofs::Saying::frame_said), unfolding(crate::specs::Words::frame_words))]
     fn fmt<W: fmt::Write>(&self, f: &mut fmt::Formatter<W>) -> fmt::Result {
         match self.0 {
             FrameLine::Class(part) => say(words_of::<ClassFrame>(part), f),

@@ -4,7 +4,8 @@ ghost use Rattle.lines.specs.Lines.{lines_of};
 ghost use Rattle.inspections.specs.Counts.{count_of, told_byte};
 ghost use Rattle.inspections.specs.Sums.{Counted};
 
-use crate::told::{Told, is_told_as};
+use crate::told::is_told_as;
+use lines::frame_line::FrameKind;
 use lines::reader::LineReader;
 
 #[derive(Clone, Copy)]
@@ -21,7 +22,8 @@ pub struct Totals {
 }
 
 // How many lines are told as `sought`, and how many are refused where it is none.
-fn count(text: &[u8], sought: Option<Told>) -> usize
+#[tactic(auto, using(crate::proofs::Bytes::run_of_lines))]
+fn count(text: &[u8], sought: Option<FrameKind>) -> usize
     ensures { result ≡ count_of (told_byte sought) (lines_of text.now) }
 {
     LineReader::new(text)
@@ -30,25 +32,27 @@ fn count(text: &[u8], sought: Option<Told>) -> usize
 }
 
 // How many lines there are.
+#[tactic(auto, using(crate::proofs::Bytes::run_of_lines))]
 fn count_lines(text: &[u8]) -> usize
     ensures { result ≡ length (lines_of text.now) }
 {
     LineReader::new(text).count()
 }
 
-// The counts of a text, by kind. They add up to its lines.
+/// The counts of a text, by kind. They add up to its lines.
+#[tactic(auto, using(crate::proofs::Bytes::counted_once))]
 pub fn count_all(text: &[u8]) -> Totals
     ensures { Counted (lines_of text.now) result }
 {
     Totals {
         lines: count_lines(text),
-        classes: count(text, Some(Told::Class)),
-        securities: count(text, Some(Told::Security)),
-        pairs: count(text, Some(Told::Pair)),
-        bookings: count(text, Some(Told::Booking)),
-        deposits: count(text, Some(Told::Deposit)),
-        totals: count(text, Some(Told::Total)),
-        faults: count(text, Some(Told::Fault)),
+        classes: count(text, Some(FrameKind::Class)),
+        securities: count(text, Some(FrameKind::Security)),
+        pairs: count(text, Some(FrameKind::Pair)),
+        bookings: count(text, Some(FrameKind::Booking)),
+        deposits: count(text, Some(FrameKind::Deposit)),
+        totals: count(text, Some(FrameKind::Total)),
+        faults: count(text, Some(FrameKind::Fault)),
         refused: count(text, None),
     }
 }

@@ -1,10 +1,16 @@
+mod Accepted
 mod Classes
+mod Decoding
+mod Faulting
+mod Fitting
 mod Framed
 mod Listed
 mod Memories
 mod Placing
 mod Runs
+mod Single
+mod Splitting
 mod Texts
 mod Told
-mod Yielding
 mod Whole
+pub mod Yielding

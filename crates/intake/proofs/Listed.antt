@@ -1,22 +1,23 @@
 -- One record more: the sheet and the nets of the records. Assumes nothing.
-use Rattle.std.proofs.Common.{◌≡◌, ℕ, true, false, cond, eqb, List, [], ◌∷◌, ◌++◌, map, Some, None, Option, sym, refl, ap, ◌∙◌, subst, ⊎_elim, lit≤}
-use Rattle.std.proofs.lemmas.List.{append-nil, flat_map_more, map_push}
+use Rattle.std.proofs.Common.{◌≡◌, ℕ, ◌-◌, true, false, cond, eqb, List, [], ◌∷◌, ◌++◌, length, map, Some, None, Option, sym, refl, ap, ◌∙◌, subst, ⊎_elim, arith, lit≤}
+use Rattle.std.proofs.lemmas.List.{append-nil, flat_map_more, length_push, map_push}
 use Rattle.std.proofs.lemmas.Bool.{cases_Bool, eq-eqb, eqb-true}
 use Rattle.std.proofs.lemmas.Map.{update_same, update_apart}
 use Rattle.std.specs.List.{flat_map}
 use Rattle.std.specs.Map.{update}
-use Rattle.frames.specs.declared.record.BookingRecord.{BookingRecord}
+use Rattle.frames.specs.declared.kinds.booking.BookingRecord.{BookingRecord}
 use Rattle.rules.specs.Rows.{Rows, Lawful}
 use Rattle.sheets.proofs.Asked.{class_asked, security_asked}
 use Rattle.sheets.proofs.Growth.{class_keeps, security_keeps, pair_keeps}
 use Rattle.books.specs.Books.{booked}
 use Rattle.books.specs.Totals.{total}
+use Rattle.books.proofs.Accounts.{booked_net, same_account}
 use Rattle.books.proofs.Sums.{total_books}
-use Rattle.positions.specs.Questions.{or_else}
 use Rattle.entries.specs.Desks.{with_row}
-use Rattle.terms.specs.Choices.{signed}
+use Rattle.terms.specs.Questions.{or_else}
+use Rattle.terms.specs.Limits.{booking_limit}
 use Rattle.entries.specs.Entries.{Row, of_class, of_security, of_pair}
-use Rattle.intake.specs.Listings.{RowRecord, class_record, security_record, pair_record, class_of, security_of, pair_of, booking_of, for_class, for_security, as_pair, listed, sheet_of, nets_of, row_refusal}
+use Rattle.intake.specs.Listings.{RowRecord, class_record, security_record, pair_record, class_of, security_of, pair_of, booking_of, for_class, for_security, as_pair, listed, sheet_of, account_after, row_refusal}
 
 -- the row of a record
 abbrev pub row_of : RowRecord → Row
@@ -85,6 +86,10 @@ lawful_push items l item accepted = subst Lawful (sheet_push items item accepted
 pub lawful_none : Lawful (sheet_of [])
 lawful_none = record { of_classes = λ c. tt; of_securities = λ s. tt; of_pairs = tt; few_pairs = lit≤ tt }
 
--- the nets with one booking more
-pub nets_push : (bookings : List BookingRecord) (b : BookingRecord) → booked (nets_of bookings) b.security (signed b.side b.quantity) ≡ nets_of (bookings ++ b ∷ [])
-nets_push bookings b = λ i s. (sym (total_books (map booking_of bookings) (booking_of b) s) ∙ ap (λ bs. total bs s) (sym (map_push booking_of bookings b))) i
+-- the account with one booking more
+pub account_push : (bookings : List BookingRecord) (b : BookingRecord) → booked (account_after bookings) (booking_of b) ≡ account_after (bookings ++ b ∷ [])
+account_push bookings b =
+    let before = account_after bookings in
+    let left : booking_limit - length bookings - 1 ≡ booking_limit - length (bookings ++ b ∷ []) = omega (arith, length_push bookings b) in
+    same_account (booked before (booking_of b)) (account_after (bookings ++ b ∷ []))
+    (λ s. booked_net before (booking_of b) s ∙ sym (total_books (map booking_of bookings) (booking_of b) s) ∙ ap (λ bs. total bs s) (sym (map_push booking_of bookings b))) left

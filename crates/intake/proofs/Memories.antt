@@ -3,10 +3,10 @@ use Rattle.std.proofs.Common.{◌≡◌, ℕ, ◌+◌, ◌-◌, ◌<◌, ◌≤�
 use borrow.Rule.Slice.PartMut.{put_mid}
 use Rattle.std.proofs.lemmas.List.{append_assoc, append-nil, drop_all, drop_at, drop-drop, take_at, take_rest}
 use Rattle.std.proofs.lemmas.Bool.{lt-ltb, cond-true}
-use Rattle.terms.specs.declared.layer.Layer.TheVariants.{Frame}
+use Rattle.terms.specs.Refusals.{answer_at}
 use Rattle.terms.specs.declared.refusal.Refusal.TheVariants.{LineMemoryTooShort}
 use Rattle.terms.specs.Limits.{answer_memory}
-use Rattle.terms.specs.Questions.{ask, answer}
+use Rattle.terms.specs.Questions.{ask}
 use Rattle.frames.specs.Written.{written, written_answer}
 use Rattle.lines.specs.Lines.{fed}
 use Rattle.intake.specs.Filling.{Fills}
@@ -22,8 +22,8 @@ length_one line = omega (arith, length-append line (10 ∷ []))
 -- ---- one line
 
 module _ (line memory : List ℕ) (room : length line < length memory) where
-  answers : written_answer line memory ≡ Ok (length line + 1)
-  answers = ap (λ b. answer Frame 0 (length line + 1) (ask b LineMemoryTooShort None)) (lt-ltb (length line) (length memory) room)
+  pub answers : written_answer line memory ≡ Ok (length line + 1)
+  answers = ap (λ b. answer_at 0 (length line + 1) (ask b LineMemoryTooShort None)) (lt-ltb (length line) (length memory) room)
 
   pub one_line : (count : ℕ) (after : List ℕ) → Ok count ≡ written_answer line memory → after ≡ written line memory → Fills (line ∷ []) memory count after
   one_line count after told is =

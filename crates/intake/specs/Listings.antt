@@ -1,26 +1,28 @@
 -- A text as it is put together: the records of its rows, and then those of its bookings. Assumes nothing.
 use Rattle.std.specs.Prelude.{◌≡◌, ℕ, ◌-◌, cond, List, [], ◌∷◌, ◌++◌, map, length, ℤ, Some, None, Option, ◌==◌}
 use Rattle.std.specs.List.{flat_map}
+use Rattle.terms.specs.Questions.{or_else}
 use Rattle.terms.specs.declared.refusal.Refusal.{Refusal}
 use Rattle.terms.specs.Limits.{booking_limit}
 use Rattle.terms.specs.Choices.{signed}
 use Rattle.frames.specs.Frames.{line_of}
 use Rattle.frames.specs.Kinds.{class_kind, security_kind, pair_kind, booking_kind}
-use Rattle.frames.specs.Records.{class_figures, security_figures, pair_figures, booking_figures}
-use Rattle.frames.specs.declared.record.BookingRecord.{BookingRecord}
-use Rattle.frames.specs.declared.record.ClassRecord.{ClassRecord}
-use Rattle.frames.specs.declared.record.PairRecord.{PairRecord}
-use Rattle.frames.specs.declared.record.SecurityRecord.{SecurityRecord}
-use Rattle.lines.specs.Lines.{fed, closed}
+use Rattle.frames.specs.Classes.{class_figures}
+use Rattle.frames.specs.Securities.{security_figures}
+use Rattle.frames.specs.Pairs.{pair_figures}
+use Rattle.frames.specs.Bookings.{booking_figures}
+use Rattle.frames.specs.declared.kinds.booking.BookingRecord.{BookingRecord}
+use Rattle.frames.specs.declared.kinds.class.ClassRecord.{ClassRecord}
+use Rattle.frames.specs.declared.kinds.pair.PairRecord.{PairRecord}
+use Rattle.frames.specs.declared.kinds.security.SecurityRecord.{SecurityRecord}
 use Rattle.rules.specs.declared.rows.ClassRow.{ClassRow}
 use Rattle.rules.specs.declared.rows.SecurityRow.{SecurityRow}
 use Rattle.rules.specs.declared.rows.PairRow.{PairRow}
 use Rattle.rules.specs.Rows.{Rows}
 use Rattle.sheets.specs.Drafts.{class_refusal, security_refusal, pair_refusal}
 use Rattle.books.specs.declared.booking.Booking.{Booking}
-use Rattle.books.specs.Books.{booking_refusal}
+use Rattle.books.specs.Books.{Account, account_of, booking_refusal}
 use Rattle.books.specs.Totals.{total}
-use Rattle.positions.specs.Questions.{or_else}
 
 -- the record of a row
 pub data RowRecord : Type 0 where
@@ -38,9 +40,9 @@ row_frame (pair_record r) = line_of pair_kind (pair_figures r)
 abbrev pub booking_frame : BookingRecord → List ℕ
 booking_frame b = line_of booking_kind (booking_figures b)
 
--- the text is the frames of these records, rows before bookings, each with its line feed, which the last may lack
-abbrev pub TextOf : List RowRecord → List BookingRecord → List ℕ → Type 0
-TextOf items bookings text = closed text ≡ fed (map row_frame items ++ map booking_frame bookings)
+-- the frames of these records, rows before bookings
+abbrev pub frames_of : List RowRecord → List BookingRecord → List (List ℕ)
+frames_of items bookings = map row_frame items ++ map booking_frame bookings
 
 -- ---- the rows and the nets
 
@@ -85,6 +87,10 @@ sheet_of items = record { classes = λ c. listed (for_class c) items; securities
 abbrev pub nets_of : List BookingRecord → ℕ → ℤ
 nets_of bookings = total (map booking_of bookings)
 
+-- and the account of a book that took them
+abbrev pub account_after : List BookingRecord → Account
+account_after bookings = account_of (nets_of bookings) (booking_limit - length bookings)
+
 -- ---- what is accepted
 
 abbrev pub row_refusal : Rows → RowRecord → Option Refusal
@@ -92,12 +98,23 @@ row_refusal rows (class_record r) = class_refusal rows r.class (class_of r)
 row_refusal rows (security_record r) = security_refusal rows r.security (security_of r)
 row_refusal rows (pair_record r) = pair_refusal rows (pair_of r)
 
--- no row is refused at the sheet of the rows before it
-abbrev pub RowsAccepted : List RowRecord → Type 0
-RowsAccepted items = (before after : List RowRecord) (item : RowRecord) → items ≡ before ++ item ∷ after → row_refusal (sheet_of before) item ≡ None
+-- why a booking is refused after these bookings, if it is
+abbrev pub refusal_after : List BookingRecord → BookingRecord → Option Refusal
+refusal_after bookings b = booking_refusal (account_after bookings) (booking_of b)
 
--- no booking is refused at the nets of the bookings before it
+-- a row is accepted at the sheet of the rows before it, and a booking at the nets of the bookings before it
+abbrev pub AcceptsRow : List RowRecord → RowRecord → Type 0
+AcceptsRow items item = row_refusal (sheet_of items) item ≡ None
+
+abbrev pub AcceptsBooking : List BookingRecord → BookingRecord → Type 0
+AcceptsBooking bookings b = refusal_after bookings b ≡ None
+
+-- so it is with each element and those before it
+abbrev pub Each : {A : Type 0} → (List A → A → Type 0) → List A → Type 0
+Each {A} Accepts xs = (before after : List A) (x : A) → xs ≡ before ++ x ∷ after → Accepts before x
+
+abbrev pub RowsAccepted : List RowRecord → Type 0
+RowsAccepted = Each AcceptsRow
+
 abbrev pub BookingsAccepted : List BookingRecord → Type 0
-BookingsAccepted bookings =
-    (before after : List BookingRecord) (b : BookingRecord) → bookings ≡ before ++ b ∷ after
-    → booking_refusal (nets_of before) (booking_limit - length before) b.security (signed b.side b.quantity) ≡ None
+BookingsAccepted = Each AcceptsBooking

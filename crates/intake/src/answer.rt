@@ -18,8 +18,8 @@ pub(crate) const MEMORY_TOO_SHORT: Fault = Fault {
     place: 0,
 };
 
-// Writes the answer to a text at the front of `answer`, and tells how many bytes these are: the frames of the deposit, or
-// that of the first refusal. A memory that is too short and a text that is too long are refused, and nothing is written.
+/// Writes the answer to a text at the front of `answer`, and tells how many bytes these are: the frames of the deposit, or
+/// that of the first refusal. A memory that is too short and a text that is too long are refused, and nothing is written.
 pub fn answer_text(text: &[u8], answer: &mut [u8]) -> Result<usize, Fault>
     ensures told { result ≡ call_answer text.now answer.old }
     ensures memory { answer.new ≡ memory_after text.now answer.old }

@@ -1,12 +1,11 @@
 // The deposit of what an intake holds, as it is answered.
-ghost use Rattle.std.specs.Prelude.{◌≤◌, length};
+ghost use Rattle.std.specs.Prelude.{◌≤◌};
 ghost use Rattle.entries.specs.Intakes.{table_nets};
 ghost use Rattle.intake.specs.Answering.{deposit_lines, told_lines};
 ghost use Rattle.intake.specs.Filling.{Fills};
-ghost use Rattle.intake.specs.Yields.{YieldsFrames};
 ghost use Rattle.positions.specs.Questions.{portfolio_fault};
 ghost use Rattle.sheets.specs.Sheets.{sheet_rows};
-ghost use Rattle.terms.specs.Limits.{answer_memory, text_limit};
+ghost use Rattle.terms.specs.Limits.{answer_memory};
 
 use crate::writing::{write_deposit, write_fault};
 use books::table::NetTable;
@@ -38,7 +37,6 @@ fn settle(book: &NetTable, sheet: &RateSheet, answer: &mut [u8; ANSWER_MEMORY]) 
 pub(crate) fn write_answer(text: &[u8], answer: &mut [u8; ANSWER_MEMORY]) -> usize
     ensures fills { Fills (told_lines text.now) answer.old result answer.new }
     ensures size { result ≤ answer_memory }
-    ensures yields { length text.now ≤ text_limit → YieldsFrames text.now answer.old result answer.new }
 {
     match take_text(text) {
         Ok(Intake { draft, book, .. }) => settle(&book, &draft.put_in_force(), answer),

@@ -9,8 +9,7 @@ use deposits::records::{ClassMargin, Summary};
 use entries::line_fault::LineFault;
 use frames::codec::write;
 use frames::frame::Frame;
-use frames::kinds::{DepositFrame, FaultFrame, TotalFrame};
-use frames::record::{DepositRecord, TotalRecord};
+use frames::kinds::{DepositFrame, DepositRecord, FaultFrame, TotalFrame, TotalRecord};
 use terms::limits::{ANSWER_MEMORY, CLASSES};
 
 // Writes the frame of `item` at the front of `memory`, which has room for it, and tells how many bytes these are.

@@ -1,10 +1,11 @@
 -- The first line of a text and what is left after it. Assumes nothing.
-use Rattle.std.proofs.Common.{◌≡◌, ℕ, zero, suc, ◌+◌, ◌-◌, ◌<◌, ◌≤◌, Bool, true, false, cond, eqb, List, [], ◌∷◌, length, get_or, take, drop, Some, None, Option, sym, refl, ap, ◌∙◌, ⊎_elim, arith, length-drop}
-use Rattle.std.proofs.lemmas.List.{drop-drop, take_rest}
+use Rattle.std.proofs.Common.{◌≡◌, ℕ, zero, suc, ◌+◌, ◌-◌, ◌<◌, ◌≤◌, min, Bool, true, false, cond, eqb, ◌≢◌, List, [], ◌∷◌, ◌++◌, length, get_or, take, drop, Some, None, Option, sym, refl, ap, ◌∙◌, subst, ⊎_elim, arith, length-drop}
+use Rattle.std.proofs.lemmas.List.{drop_all, drop-drop, take_rest}
+use Rattle.std.specs.List.{AllByRecursion}
 use Rattle.std.specs.Option.{unwrap_or}
-use Rattle.std.proofs.lemmas.Bool.{eq-eqb, ne_eqb, cases_eq}
+use Rattle.std.proofs.lemmas.Bool.{eq-eqb, ne_eqb, cases_eq, cases_lt}
 use Rattle.memchr.specs.Find.{IsFirstByte, is_byte}
-use Rattle.lines.specs.Lines.{first_line, after_line, before, lines_of, fed, closed}
+use Rattle.lines.specs.Lines.{first_line, after_line, before, lines_of, Unbroken, fed, closed, with_places}
 
 bool_false : (t : Bool) → (t ≡ true → ⊥) → t ≡ false
 bool_false true h = absurd (h refl)
@@ -65,6 +66,15 @@ lines_first (c ∷ d ∷ cs) h = elim (eqb c 10) as (λ b. cond b ([] ∷ lines_
   | false ↦ ap (before c) (lines_first (d ∷ cs) (omega arith))
 ]
 
+-- the next line stands behind the line feed, and where that is past the end there is none
+pub next_place : (text : List ℕ) (next behind : ℕ) → next ≡ min behind (length text) → with_places next (lines_of (drop next text)) ≡ with_places behind (lines_of (drop next text))
+next_place text next behind is = ⊎_elim
+    (λ past.
+    let none : drop next text ≡ [] = drop_all next text (omega arith) in
+    ap (λ t. with_places next (lines_of t)) none ∙ sym (ap (λ t. with_places behind (lines_of t)) none))
+    (λ within. let same : next ≡ behind = omega arith in ap (λ k. with_places k (lines_of (drop next text))) same)
+    (cases_lt (length text) behind)
+
 -- the lines of a text, each with its line feed, are the text
 pub lines_joined : (text : List ℕ) → fed (lines_of text) ≡ closed text
 lines_joined [] = refl
@@ -91,3 +101,43 @@ lines_few (c ∷ d ∷ cs) =
     let few = lines_few (d ∷ cs) in
     let one : length (before c rest) ≡ length rest = ap (λ l. length (before c l)) first ∙ ap length (sym first) in
     elim (eqb c 10) as (λ b. length (cond b ([] ∷ rest) (before c rest)) ≤ suc (length (d ∷ cs))) [ true ↦ omega arith | false ↦ omega arith ]
+
+-- ---- no line holds a line feed
+
+before_unbroken : (c : ℕ) → c ≢ 10 → (lines : List (List ℕ)) → AllByRecursion Unbroken lines → AllByRecursion Unbroken (before c lines)
+before_unbroken c h [] all = ((h, tt), tt)
+before_unbroken c h (line ∷ lines) all = ((h, all.0), all.1)
+
+pub lines_unbroken : (text : List ℕ) → AllByRecursion Unbroken (lines_of text)
+lines_unbroken [] = tt
+lines_unbroken (c ∷ cs) =
+    let rest = lines_of cs in
+    let later = lines_unbroken cs in
+    ⊎_elim
+    (λ e. subst (λ b. AllByRecursion Unbroken (cond b ([] ∷ rest) (before c rest))) (sym (eq-eqb c 10 e)) (tt, later))
+    (λ d. subst (λ b. AllByRecursion Unbroken (cond b ([] ∷ rest) (before c rest))) (sym (ne_eqb c 10 d)) (before_unbroken c d rest later))
+    (cases_eq c 10)
+
+-- ---- and no other lines without a line feed make up the text
+
+first_of : (line rest : List ℕ) → Unbroken line → lines_of (line ++ (10 ∷ rest)) ≡ line ∷ lines_of rest
+first_of [] rest h = refl
+first_of (c ∷ line) rest h =
+    ap (λ b. cond b ([] ∷ lines_of (line ++ (10 ∷ rest))) (before c (lines_of (line ++ (10 ∷ rest))))) (ne_eqb c 10 h.0)
+    ∙ ap (before c) (first_of line rest h.1)
+
+lines_fed : (lines : List (List ℕ)) → AllByRecursion Unbroken lines → lines_of (fed lines) ≡ lines
+lines_fed [] h = refl
+lines_fed (line ∷ lines) h = first_of line (fed lines) h.0 ∙ ap (λ rest. line ∷ rest) (lines_fed lines h.1)
+
+-- the feed that the last line may lack makes no other lines
+lines_closed : (text : List ℕ) → lines_of (closed text) ≡ lines_of text
+lines_closed [] = refl
+lines_closed (c ∷ []) = ⊎_elim
+    (λ e. ap (λ b. lines_of (cond b (c ∷ []) (c ∷ 10 ∷ []))) (eq-eqb c 10 e))
+    (λ e. ap (λ b. lines_of (cond b (c ∷ []) (c ∷ 10 ∷ []))) (ne_eqb c 10 e) ∙ ap (λ b. cond b ([] ∷ ([] ∷ [])) ((c ∷ []) ∷ [])) (ne_eqb c 10 e) ∙ sym (ap (λ b. cond b ([] ∷ []) ((c ∷ []) ∷ [])) (ne_eqb c 10 e)))
+    (cases_eq c 10)
+lines_closed (c ∷ d ∷ cs) = ap (λ rest. cond (eqb c 10) ([] ∷ rest) (before c rest)) (lines_closed (d ∷ cs))
+
+pub lines_only : (text : List ℕ) (lines : List (List ℕ)) → closed text ≡ fed lines → AllByRecursion Unbroken lines → lines_of text ≡ lines
+lines_only text lines is unbroken = sym (lines_closed text) ∙ ap lines_of is ∙ lines_fed lines unbroken

@@ -1,7 +1,8 @@
 -- The lines of a text. A line ends in a line feed; the last may lack it; no bytes left are no line.
 -- Assumes nothing.
-use Rattle.std.specs.Prelude.{ℕ, cond, List, [], ◌∷◌, ◌++◌, drop, Option, ◌==◌}
+use Rattle.std.specs.Prelude.{ℕ, ◌+◌, cond, ◌≢◌, List, [], ◌∷◌, ◌++◌, length, drop, Option, ◌==◌}
 use Rattle.std.specs.Iterator.{YieldsFirstBy}
+use Rattle.std.specs.List.{AllByRecursion}
 use Rattle.lines.specs.declared.part.Part.{Part}
 use Rattle.lines.specs.declared.reader.LineReader.{LineReader}
 
@@ -25,6 +26,10 @@ abbrev pub lines_of : List ℕ → List (List ℕ)
 lines_of [] = []
 lines_of (c ∷ cs) = cond (c == 10) ([] ∷ lines_of cs) (before c (lines_of cs))
 
+-- no byte of a line is a line feed
+abbrev pub Unbroken : List ℕ → Type 0
+Unbroken = AllByRecursion (λ c. c ≢ 10)
+
 -- lines, each with its line feed
 abbrev pub fed : List (List ℕ) → List ℕ
 fed [] = []
@@ -47,3 +52,25 @@ lines_left reader = lines_of (rest_of reader)
 -- a call gives the first of the lines left, and leaves the others; none where none is left, and then none is
 abbrev pub GivesFirstLine : LineReader → Option Part → LineReader → Type 0
 GivesFirstLine = YieldsFirstBy (λ part. part.digits.now) lines_left
+
+-- a line, and its place in the text
+pub record Placed : Type 0 where
+  pub place : ℕ
+  pub line : List ℕ
+
+-- lines of which the first stands at this place; each other one stands behind the line feed of the one before
+abbrev pub with_places : ℕ → List (List ℕ) → List Placed
+with_places place [] = []
+with_places place (line ∷ lines) = record { place = place; line = line } ∷ with_places (place + length line + 1) lines
+
+-- the lines that a reader has still to read, with their places
+abbrev pub places_left : LineReader → List Placed
+places_left reader = with_places reader.at (lines_left reader)
+
+-- a call gives the first of these
+abbrev pub GivesFirstPlace : LineReader → Option Part → LineReader → Type 0
+GivesFirstPlace = YieldsFirstBy (λ part. record { place = part.place; line = part.digits.now }) places_left
+
+-- a call gives the first line and its place
+abbrev pub GivesFirst : LineReader → Option Part → LineReader → Type 0
+GivesFirst reader given left = GivesFirstLine reader given left × GivesFirstPlace reader given left

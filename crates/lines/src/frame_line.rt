@@ -1,9 +1,8 @@
 // A line that is a frame, told by its kind.
 ghost use Rattle.std.specs.Prelude.{◌≡◌};
-ghost use Rattle.terms.specs.Questions.{answer};
-ghost use Rattle.terms.specs.declared.layer.Layer.TheVariants.{Frame as InFrame};
+ghost use Rattle.terms.specs.Refusals.{answer_at};
 ghost use Rattle.frames.specs.Frames.{fields_refusal};
-ghost use Rattle.lines.specs.FrameLines.{Tells, TellsKind};
+ghost use Rattle.lines.specs.FrameLines.{Tells, TellsKind, kind_of, named_kind};
 
 use crate::part::{Fields, Part};
 use frames::codec::{check, split};
@@ -12,10 +11,21 @@ use frames::kinds::{
     BookingFrame, ClassFrame, DepositFrame, FaultFrame, PairFrame, SecurityFrame, TotalFrame,
 };
 use terms::fault::Fault;
-use terms::layer::Layer;
 use terms::refusal::Refusal;
 
-// Each holds the digits of the fields, and the place of the line in the text.
+/// A kind of frame, by its name.
+#[derive(Clone, Copy, PartialEq, Eq)]
+pub enum FrameKind {
+    Class,
+    Security,
+    Pair,
+    Booking,
+    Deposit,
+    Total,
+    Fault,
+}
+
+/// Each holds the digits of the fields, and the place of the line in the text.
 // Kept: a rule of the project: one case a kind of frame, each with its part of the text and its place.
 #[derive(Clone, Copy)]
 pub enum FrameLine<'a> {
@@ -30,7 +40,7 @@ pub enum FrameLine<'a> {
 
 // The frame, if the fields are those of its kind.
 fn checked<'a, F: Frame>(frame: FrameLine<'a>, fields: &[u8]) -> Result<FrameLine<'a>, Fault>
-    ensures { result ≡ answer InFrame 0 frame.entry (fields_refusal F.kind fields.now) }
+    ensures { result ≡ answer_at 0 frame.entry (fields_refusal F.kind fields.now) }
 {
     check::<F>(fields)?;
     Ok(frame)
@@ -49,7 +59,24 @@ fn of_kind<'a>(kind: u8, part: Fields<'a>) -> Result<FrameLine<'a>, Fault>
         DepositFrame::KIND => checked::<DepositFrame>(FrameLine::Deposit(part), fields),
         TotalFrame::KIND => checked::<TotalFrame>(FrameLine::Total(part), fields),
         FaultFrame::KIND => checked::<FaultFrame>(FrameLine::Fault(part), fields),
-        _ => Err(Layer::Frame.fault(0, Refusal::UnknownKind)),
+        _ => Err(Refusal::UnknownKind.at(0)),
+    }
+}
+
+impl FrameLine<'_> {
+    /// Its kind.
+    pub fn kind(&self) -> FrameKind
+        ensures { named_kind result ≡ kind_of self.now }
+    {
+        match self {
+            FrameLine::Class(_) => FrameKind::Class,
+            FrameLine::Security(_) => FrameKind::Security,
+            FrameLine::Pair(_) => FrameKind::Pair,
+            FrameLine::Booking(_) => FrameKind::Booking,
+            FrameLine::Deposit(_) => FrameKind::Deposit,
+            FrameLine::Total(_) => FrameKind::Total,
+            FrameLine::Fault(_) => FrameKind::Fault,
+        }
     }
 }
 

@@ -1,9 +1,9 @@
 -- What a list over memory handed in means, and what its calls do to that memory. Assumes nothing.
-use Rattle.std.specs.Prelude.{◌≡◌, ℕ, ◌<◌, ◌≤◌, [], ◌∷◌, ◌++◌, length, take, Ok, Err, Result, slice_index_or, slice_set}
+use Rattle.std.specs.Prelude.{◌≡◌, ℕ, ◌<◌, ◌≤◌, [], ◌∷◌, ◌++◌, drop, length, take, Ok, Err, Result, slice_index_or, slice_set}
 use mathlib.Core.List as L
 use Rattle.terms.specs.declared.fault.Fault.{Fault}
-use Rattle.terms.specs.declared.layer.Layer.TheVariants as layer
 use Rattle.terms.specs.declared.refusal.Refusal.TheVariants.{NoSuchPlace}
+use Rattle.terms.specs.Refusals.{fault_at}
 use Rattle.lists.specs.declared.list.List.{List}
 
 -- all places of the memory that a list lies in, filled or free
@@ -20,7 +20,7 @@ items l = take l.len (memory l)
 
 -- refusal 6, of a list
 abbrev pub no_such_place : Fault
-no_such_place = record { refusal = NoSuchPlace; layer = layer.List; place = 0 }
+no_such_place = fault_at 0 NoSuchPlace
 
 -- t is s with no record, over the same memory
 pub record Cleared {X : Type 0} (s t : List X) : Type 0 where
@@ -32,6 +32,13 @@ pub record Appended {X : Type 0} (x : X) (s t : List X) : Type 0 where
   pub free : length (items s) < length (memory s)
   pub memory : memory t ≡ slice_set (memory s) (length (items s)) x
   pub items : items t ≡ items s ++ x ∷ []
+
+-- t is s with the records xs more: they stand in the first places that were free, in their order, and no other place changes
+pub record Extended {X : Type 0} (xs : L.List X) (s t : List X) : Type 0 where
+  pub lender : lender t ≡ lender s
+  pub places : length (memory t) ≡ length (memory s)
+  pub past : drop (length (items t)) (memory t) ≡ drop (length (items t)) (memory s)
+  pub items : items t ≡ items s ++ xs
 
 -- What an append does to a list: refused, it leaves the list and its memory as they were.
 abbrev pub Appends : {X : Type 0} → X → List X → List X → Result (Unit {0}) Fault → Type 0

@@ -1,18 +1,8 @@
 // The list itself; its methods stand in a module of their own.
-use terms::fault::Fault;
-use terms::layer::Layer;
-use terms::refusal::Refusal;
 
 mod methods;
 
-// The refusal of a list: there is no such place.
-pub const NO_SUCH_PLACE: Fault = Fault {
-    refusal: Refusal::NoSuchPlace,
-    layer: Layer::List,
-    place: 0,
-};
-
-// The records appended so far, at the front of memory that the caller hands in.
+/// The records appended so far, at the front of memory that the caller hands in.
 // Kept: one list over a borrowed slice is a rule of the project: it is a slice of places, and how many of them are filled.
 // Kept: no plainer: that the lender is the same after a call is no fact of one value, so that each contract says it.
 #[derive(Drop)]

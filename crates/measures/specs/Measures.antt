@@ -1,13 +1,14 @@
 -- A deposit beside the exact margin. Assumes nothing.
-use Rattle.std.specs.Prelude.{◌≡◌, ℕ, ◌*◌, ◌^◌, ◌≤◌, length, ℤ, pos, ◌-ℤ◌, ◌*ℤ◌, Some, None, Ok, Err, Result, unsigned_abs}
+use Rattle.std.specs.Prelude.{◌≡◌, ℕ, ◌*◌, ◌^◌, ◌≤◌, length, ℤ, pos, ◌-ℤ◌, ◌*ℤ◌, Result, unsigned_abs}
 use mathlib.Core.List as L
+use Rattle.terms.specs.Outcomes.{Outcome}
 use Rattle.terms.specs.declared.fault.Fault.{Fault}
 use Rattle.terms.specs.declared.money.Grosz.{Grosz}
 use Rattle.lists.specs.declared.list.List.{List}
 use Rattle.lists.specs.Lists.{memory}
 use Rattle.rules.specs.Rows.{Rows}
-use Rattle.rules.specs.Margin.{exact, DSPAN}
-use Rattle.rules.specs.Held.{securities_held, classes_held, pairs_held}
+use Rattle.rules.specs.Margin.{exact, rounded, DSPAN}
+use Rattle.rules.specs.Held.{exposure_of, securities_held, classes_held, pairs_held}
 use Rattle.rules.specs.Laws.{accuracy_bound_lem}
 use Rattle.deposits.specs.declared.records.ClassMargin.{ClassMargin}
 use Rattle.deposits.specs.declared.records.Match.{Match}
@@ -28,5 +29,7 @@ pub record Measured (rows : Rows) (nets : ℕ → ℤ) (x : Measure) : Type 0 wh
 
 -- A deposit that is accepted is told as any deposit, and measured; a refused one changes nothing.
 abbrev pub Measures : Rows → (ℕ → ℤ) → L.List ClassMargin → List Match → L.List ClassMargin → List Match → Result Measure Fault → Type 0
-Measures rows nets cs l ds m (Ok x) = (deposit_fault rows nets (length cs) (length (memory l)) ≡ None) × Deposited rows nets cs l ds m x.summary × Measured rows nets x
-Measures rows nets cs l ds m (Err f) = (deposit_fault rows nets (length cs) (length (memory l)) ≡ Some f) × (ds ≡ cs) × (m ≡ l)
+Measures rows nets cs l ds m =
+    Outcome (deposit_fault rows nets (length cs) (length (memory l)))
+    (λ x. Deposited rows (exposure_of rounded rows nets) cs l ds m x.summary × Measured rows nets x)
+    ((ds ≡ cs) × (m ≡ l))

@@ -25,8 +25,8 @@ fn distance(deposit: Grosz, exact: i128) -> u128
     (deposit.grosz() as i128 * GROSZ - exact).unsigned_abs()
 }
 
-// The deposit of the portfolio in `book`, by the rates of `sheet`, its exact margin, and the gap between them, which is no larger
-// than the bound. Class places and the match list are filled as by a deposit.
+/// The deposit of the portfolio in `book`, by the rates of `sheet`, its exact margin, and the gap between them, which is no larger
+/// than the bound. Class places and the match list are filled as by a deposit.
 // Kept: a rule of the project: class results are a borrowed slice and matches a list, two memories that are handed in.
 pub fn measured<P: Positions, S: Sheet>(
     book: &P,

@@ -1,11 +1,11 @@
 -- The first fault, one number more at a time. Assumes nothing.
 use Rattle.std.proofs.Common.{◌≡◌, ℕ, zero, suc, ◌+◌, ◌-◌, ◌<◌, ◌≤◌, Some, None, Ok, Err, Option, refl, ap, ◌∙◌, subst, ⊎_elim, add-one, arith}
 use Rattle.std.proofs.lemmas.Bool.{cases_lt}
-use Rattle.terms.specs.Questions.{answer, fault_of}
+use Rattle.terms.specs.Questions.{or_else}
+use Rattle.terms.specs.Refusals.{answer_at, refused_at}
 use Rattle.terms.specs.declared.fault.Fault.{Fault}
-use Rattle.terms.specs.declared.layer.Layer.{Layer}
 use Rattle.terms.specs.declared.refusal.Refusal.{Refusal}
-use Rattle.positions.specs.Questions.{first_below, or_else}
+use Rattle.positions.specs.Questions.{first_below}
 
 pub first_none : (f : ℕ → Option Fault) → first_below 0 f ≡ None
 unfolding first_below
@@ -30,13 +30,13 @@ first_found n m f x l e h =
     subst (λ (j : ℕ). first_below j f ≡ Some x) (omega arith) (first_stays (n + 1) (m - (n + 1)) f x (first_more n f e ∙ h))
 
 -- what an answer says of its questions
-pub answered_err : {A : Type 0} (layer : Layer) (place : ℕ) (v : A) (o : Option Refusal) (x : Fault) → Err x ≡ answer layer place v o → fault_of layer place o ≡ Some x
-answered_err layer place v None x e = absurd (let z : ◌≡◌ {A = ℕ} 0 1 = cc in omega arith)
-answered_err layer place v (Some y) x e = cc
+pub answered_err : {A : Type 0} (place : ℕ) (v : A) (o : Option Refusal) (x : Fault) → Err x ≡ answer_at place v o → refused_at place o ≡ Some x
+answered_err place v None x e = absurd (let z : ◌≡◌ {A = ℕ} 0 1 = cc in omega arith)
+answered_err place v (Some y) x e = cc
 
-pub answered_ok : {A : Type 0} (layer : Layer) (place : ℕ) (v : A) (o : Option Refusal) (a : A) → Ok a ≡ answer layer place v o → (fault_of layer place o ≡ None) × (a ≡ v)
-answered_ok layer place v None a e = (refl, cc)
-answered_ok layer place v (Some y) a e = absurd (let z : ◌≡◌ {A = ℕ} 0 1 = cc in omega arith)
+pub answered_ok : {A : Type 0} (place : ℕ) (v : A) (o : Option Refusal) (a : A) → Ok a ≡ answer_at place v o → (refused_at place o ≡ None) × (a ≡ v)
+answered_ok place v None a e = (refl, cc)
+answered_ok place v (Some y) a e = absurd (let z : ◌≡◌ {A = ℕ} 0 1 = cc in omega arith)
 
 neither : (o p : Option Fault) → or_else o p ≡ None → (o ≡ None) × (p ≡ None)
 neither None p e = (refl, e)
@@ -49,8 +49,3 @@ all_pass zero f e s l = absurd (omega arith)
 all_pass (suc n) f e s l =
     let both = neither (first_below n f) (f n) e in
     ⊎_elim (λ (h : s < n). all_pass n f both.0 s h) (λ (h : n ≤ s). let same : n ≡ s = omega arith in subst (λ (k : ℕ). f k ≡ None) same both.1) (cases_lt s n)
-
--- no fault is no refusal
-pub unrefused : (layer : Layer) (place : ℕ) (o : Option Refusal) → fault_of layer place o ≡ None → o ≡ None
-unrefused layer place None e = refl
-unrefused layer place (Some y) e = absurd (let z : ◌≡◌ {A = ℕ} 0 1 = cc in omega arith)

@@ -1,40 +1,42 @@
 -- The sums and counts over the positions, one position more at a time, and that they stay small. Assumes nothing.
-use Rattle.std.proofs.Common.{◌≡◌, ℕ, zero, suc, ◌+◌, ◌*◌, ◌≤◌, Bool, true, false, cond, eqb, List, length, get_or, take, None, Some, Option, sym, ap, ◌∙◌, subst, add-one, arith}
+use Rattle.std.proofs.Common.{◌≡◌, ℕ, zero, suc, ◌+◌, ◌*◌, ◌≤◌, Bool, true, false, cond, eqb, List, length, get_or, take, sym, ap, ◌∙◌, subst, add-one, arith}
 use Rattle.std.specs.Prelude.{count_by, sum_by}
 use Rattle.std.proofs.lemmas.List.Sums.{sum_by_more}
 use Rattle.std.proofs.lemmas.List.{take_all}
 use Rattle.terms.specs.declared.choice.Side.{Side}
 use Rattle.terms.specs.declared.choice.Side.TheVariants.{Bought, Sold}
 use Rattle.rules.specs.Laws.{value_limit}
-use Rattle.rules.specs.Sums.{sum_below, count_below}
+use Rattle.terms.specs.Sums.{sum_below, count_below}
 use Rattle.rules.proofs.Sums.{sum_add, sum_const, sum_le, sum_more, sum_none}
-use Rattle.positions.specs.declared.position.Position.{Position}
+use Rattle.positions.specs.declared.position.Valuation.{Valuation}
+use Rattle.positions.specs.declared.position.Valuation.TheVariants.{Flat, Valued, Refused}
 use Rattle.positions.specs.Values.{as_bought, as_sold, bought_share, sold_share, bought_in, sold_in, worth_of, Small}
 
-pub bought_more : (all : List (Option Position)) (c n : ℕ) → bought_in all c (n + 1) ≡ bought_in all c n + bought_share c (get_or all n None)
-bought_more all c n = sum_more n (λ s. bought_share c (get_or all s None))
+pub bought_more : (all : List Valuation) (c n : ℕ) → bought_in all c (n + 1) ≡ bought_in all c n + bought_share c (get_or all n Flat)
+bought_more all c n = sum_more n (λ s. bought_share c (get_or all s Flat))
 
-pub sold_more : (all : List (Option Position)) (c n : ℕ) → sold_in all c (n + 1) ≡ sold_in all c n + sold_share c (get_or all n None)
-sold_more all c n = sum_more n (λ s. sold_share c (get_or all s None))
+pub sold_more : (all : List Valuation) (c n : ℕ) → sold_in all c (n + 1) ≡ sold_in all c n + sold_share c (get_or all n Flat)
+sold_more all c n = sum_more n (λ s. sold_share c (get_or all s Flat))
 
 sides_within : (t : Bool) (d : Side) (v : ℕ) → cond t (as_bought d v) 0 + cond t (as_sold d v) 0 ≤ v
 sides_within true Bought v = omega arith
 sides_within true Sold v = omega arith
 sides_within false d v = omega arith
 
-shares_within : (c : ℕ) (p : Option Position) → bought_share c p + sold_share c p ≤ worth_of p
-shares_within c None = omega arith
-shares_within c (Some p) = sides_within (eqb p.class c) p.side p.value.units
+shares_within : (c : ℕ) (p : Valuation) → bought_share c p + sold_share c p ≤ worth_of p
+shares_within c Flat = omega arith
+shares_within c (Refused refusal) = omega arith
+shares_within c (Valued p) = sides_within (eqb p.class c) p.side p.value.units
 
-pub sums_small : (all : List (Option Position)) → Small all → (c n : ℕ) → bought_in all c n + sold_in all c n ≤ n * value_limit
+pub sums_small : (all : List Valuation) → Small all → (c n : ℕ) → bought_in all c n + sold_in all c n ≤ n * value_limit
 sums_small all small c n =
-    let b : ℕ → ℕ = λ s. bought_share c (get_or all s None) in
-    let d : ℕ → ℕ = λ s. sold_share c (get_or all s None) in
+    let b : ℕ → ℕ = λ s. bought_share c (get_or all s Flat) in
+    let d : ℕ → ℕ = λ s. sold_share c (get_or all s Flat) in
     omega (
       arith,
       sum_add n b d,
       sum_const n value_limit,
-      sum_le n (λ s. b s + d s) (λ s. value_limit) (λ s l. omega (arith, shares_within c (get_or all s None), small s)),
+      sum_le n (λ s. b s + d s) (λ s. value_limit) (λ s l. omega (arith, shares_within c (get_or all s Flat), small s)),
     )
 
 -- ---- a sum over a list, by its places

@@ -2,3 +2,4 @@ pub mod Questions
 pub mod Values
 pub mod ClassSums
 pub mod Portfolios
+pub mod Sums

@@ -1,9 +1,9 @@
 -- The questions that a deposit puts to each held security, by rising number. Assumes nothing.
-use Rattle.std.specs.Prelude.{ℕ, zero, suc, cond, ℤ, is_some, Some, None, Option, nat_le, unsigned_abs}
+use Rattle.std.specs.Prelude.{ℕ, zero, suc, cond, ℤ, is_some, None, Option, nat_le, unsigned_abs}
 use Rattle.terms.specs.Limits.{security_count, amount_limit}
-use Rattle.terms.specs.Questions.{ask, fault_of}
+use Rattle.terms.specs.Questions.{ask, or_else}
+use Rattle.terms.specs.Refusals.{refused_at}
 use Rattle.terms.specs.declared.fault.Fault.{Fault}
-use Rattle.terms.specs.declared.layer.Layer.TheVariants.{Deposit}
 use Rattle.terms.specs.declared.refusal.Refusal.{Refusal}
 use Rattle.terms.specs.declared.refusal.Refusal.TheVariants.{SecurityWithoutRow, AmountTooLarge}
 use Rattle.rules.specs.declared.rows.SecurityRow.{SecurityRow}
@@ -19,17 +19,12 @@ row_refusal q row =
     None)
 
 -- a security that is not held is asked nothing
-abbrev pub security_refusal : Rows → (ℕ → ℤ) → ℕ → Option Refusal
-security_refusal rows nets s = cond (held nets s) (row_refusal (unsigned_abs (nets s)) (rows.securities s)) None
+abbrev pub held_refusal : Rows → (ℕ → ℤ) → ℕ → Option Refusal
+held_refusal rows nets s = cond (held nets s) (row_refusal (unsigned_abs (nets s)) (rows.securities s)) None
 
 -- the fault of a security, if it has one
-abbrev pub security_fault : Rows → (ℕ → ℤ) → ℕ → Option Fault
-security_fault rows nets s = fault_of Deposit s (security_refusal rows nets s)
-
--- the one, and where there is none the other
-abbrev pub or_else : {A : Type 0} → Option A → Option A → Option A
-or_else (Some a) o = Some a
-or_else None o = o
+abbrev pub held_fault : Rows → (ℕ → ℤ) → ℕ → Option Fault
+held_fault rows nets s = refused_at s (held_refusal rows nets s)
 
 -- the first fault among the numbers below n
 unfoldable pub first_below : ℕ → (ℕ → Option Fault) → Option Fault
@@ -38,4 +33,4 @@ first_below (suc n) f = or_else (first_below n f) (f n)
 
 -- the fault of a portfolio: that of the first held security which has one
 abbrev pub portfolio_fault : Rows → (ℕ → ℤ) → Option Fault
-portfolio_fault rows nets = first_below security_count (security_fault rows nets)
+portfolio_fault rows nets = first_below security_count (held_fault rows nets)

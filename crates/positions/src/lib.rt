@@ -1,9 +1,9 @@
 // The positions of a portfolio: what each held security is worth, and what its classes sum to.
 #![tactic(auto)]
 
-pub(crate) mod class_sum;
+pub mod class_sum;
+pub mod class_sums;
 pub mod portfolio;
 pub mod position;
-pub(crate) mod sums;
 pub(crate) mod table;
 pub(crate) mod value;

@@ -1,19 +1,15 @@
 // A portfolio, valued.
-ghost use Rattle.positions.specs.ClassSums.{Summed};
-ghost use Rattle.positions.specs.Values.{Small};
-ghost use Rattle.terms.specs.Limits.{security_count};
+ghost use Rattle.positions.specs.Values.{Listed, Small};
 
-use crate::class_sum::ClassSum;
-use crate::position::Position;
-use terms::limits::{CLASSES, SECURITIES};
+use crate::position::Valuation;
+use terms::limits::SECURITIES;
 
 mod methods;
 
-// The position in each held security, none of them worth more than the largest value, and what each class sums to.
+/// What each security is: no position is worth more than the largest value, and each is one of a class that there is.
 #[derive(Drop)]
 pub struct Portfolio {
-    all: [Option<Position>; SECURITIES],
-    sums: [ClassSum; CLASSES],
+    all: [Valuation; SECURITIES],
     ghost small: { Small all },
-    ghost summed: { Summed all security_count sums },
+    ghost listed: { Listed all },
 }

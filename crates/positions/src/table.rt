@@ -1,11 +1,11 @@
 // The sums and counts of all classes, in one pass over the positions.
-ghost use Rattle.std.specs.Prelude.{◌≡◌, ℕ, ◌^◌, ◌+◌, ◌<◌, length, slice_index_or};
+ghost use Rattle.std.specs.Prelude.{◌≡◌, ℕ, ◌^◌, ◌+◌, ◌<◌, length, slice_index_or, true};
 ghost use Rattle.positions.specs.ClassSums.{Summed, no_sum, with_held, with_position};
-ghost use Rattle.positions.specs.Values.{Small, worth_of};
+ghost use Rattle.positions.specs.Values.{Listed, Small, class_listed, count_all_lem, worth_of};
 ghost use Rattle.terms.specs.Limits.{class_count, security_count};
 
 use crate::class_sum::ClassSum;
-use crate::position::Position;
+use crate::position::{Position, Valuation};
 use terms::choice::Side;
 use terms::limits::{CLASSES, SECURITIES};
 
@@ -24,28 +24,34 @@ fn add(sum: &mut ClassSum, position: &Position)
 }
 
 // Adds a position, if there is one, to what its class sums to.
-fn add_to(sums: &mut [ClassSum; CLASSES], position: &Option<Position>)
-    requires bought { (c : ℕ) → c < class_count → (slice_index_or sums.old c no_sum).bought.units + worth_of position.now < 2 ^ 64 }
-    requires sold { (c : ℕ) → c < class_count → (slice_index_or sums.old c no_sum).sold.units + worth_of position.now < 2 ^ 64 }
+fn add_to(sums: &mut [ClassSum; CLASSES], valuation: &Valuation)
+    requires listed { class_listed valuation.now ≡ true }
+    requires bought { (c : ℕ) → c < class_count → (slice_index_or sums.old c no_sum).bought.units + worth_of valuation.now < 2 ^ 64 }
+    requires sold { (c : ℕ) → c < class_count → (slice_index_or sums.old c no_sum).sold.units + worth_of valuation.now < 2 ^ 64 }
     requires held { (c : ℕ) → c < class_count → (slice_index_or sums.old c no_sum).held + 1 < 2 ^ 16 }
-    ensures { sums.new ≡ with_position position.now sums.old }
+    ensures { sums.new ≡ with_position valuation.now sums.old }
 {
-    if let Some(position) = position {
-        let class = position.class as usize;
-        if class < CLASSES {
-            add(&mut sums[class], position);
-        }
+    if let Valuation::Valued(position) = valuation {
+        add(&mut sums[position.class as usize], position);
     }
 }
 
 // What each class sums to.
-pub(crate) fn class_sums_of(all: &[Option<Position>; SECURITIES]) -> [ClassSum; CLASSES]
-    requires { Small all.now }
+pub(crate) fn class_sums_of(all: &[Valuation; SECURITIES]) -> [ClassSum; CLASSES]
+    requires small { Small all.now }
+    requires listed { Listed all.now }
     ensures { Summed all.now security_count result }
 {
     let mut sums = [ClassSum::NONE; CLASSES];
-    for position in all {
-        add_to(&mut sums, position);
+    for valuation in all {
+        add_to(&mut sums, valuation);
     }
     sums
+}
+
+// How many securities are held.
+pub(crate) fn count_of(all: &[Valuation; SECURITIES]) -> u16
+    ensures { result ≡ count_all_lem all.now security_count }
+{
+    all.iter().filter(|valuation| valuation.is_valued()).count() as u16
 }

@@ -1,17 +1,15 @@
-// The positions of a portfolio, each held security valued once.
-ghost use Rattle.positions.specs.Questions.{security_refusal};
-ghost use Rattle.positions.specs.Values.{Values, position_of, side_of_lem};
-ghost use Rattle.terms.specs.Questions.{answer};
-ghost use Rattle.terms.specs.declared.layer.Layer.TheVariants as layers;
+// What each security of a portfolio is, each held one valued once.
+ghost use Rattle.positions.specs.Questions.{held_refusal};
+ghost use Rattle.positions.specs.Values.{Values, side_of_lem, valuation_of};
+ghost use Rattle.terms.specs.Refusals.{answer_at};
 ghost use Rattle.std.specs.Prelude.{◌≡◌};
 
-use crate::position::Position;
-use books::book::{Positions, net_of};
+use crate::position::{Position, Valuation};
+use books::book::Positions;
 use sheets::reading::priced_security;
 use sheets::sheet::Sheet;
 use terms::choice::Side;
 use terms::fault::Fault;
-use terms::layer::Layer;
 use terms::limits::SECURITIES;
 use terms::refusal::Refusal;
 
@@ -23,42 +21,47 @@ fn side_of(net: i64) -> Side
     if net < 0 { Side::Sold } else { Side::Bought }
 }
 
-// The position in a security where it is held, or its refusal.
-fn position<P: Positions, S: Sheet>(
-    book: &P,
-    sheet: &S,
-    security: u16,
-) -> Result<Option<Position>, Fault>
-    ensures { result ≡ answer layers.Deposit security (position_of (S.Sheet.rows sheet.now) (P.Positions.nets book.now) security) (security_refusal (S.Sheet.rows sheet.now) (P.Positions.nets book.now) security) }
+// What a security is of which this net is held.
+fn valuation<S: Sheet>(sheet: &S, security: u16, net: i64) -> Valuation
+    ensures { result ≡ valuation_of (S.Sheet.rows sheet.now) (λ _. net) security }
 {
-    let net = net_of(book, security);
     if net == 0 {
-        return Ok(None);
+        return Valuation::Flat;
     }
-    let priced = priced_security(sheet, security).ok_or(Layer::Deposit.fault(
-        security,
-        Refusal::SecurityWithoutRow,
-    ))?;
-    let (_, value) = priced
-        .valuation(net)
-        .ok_or(Layer::Deposit.fault(security, Refusal::AmountTooLarge))?;
-    Ok(Some(Position {
-        class: priced.row.class,
-        side: side_of(net),
-        value,
-    }))
+    let Some(priced) = priced_security(sheet, security) else {
+        return Valuation::Refused(Refusal::SecurityWithoutRow);
+    };
+    match priced.valuation(net) {
+        Some((_, value)) => Valuation::Valued(Position {
+            class: priced.row.class,
+            side: side_of(net),
+            value,
+        }),
+        None => Valuation::Refused(Refusal::AmountTooLarge),
+    }
 }
 
-// The positions of a portfolio, or the refusal of the first held security that has one.
-pub(crate) fn positions<P: Positions, S: Sheet>(
+// The same where no question refuses it.
+fn unrefused<S: Sheet>(sheet: &S, security: u16, net: i64) -> Result<Valuation, Fault>
+    ensures { result ≡ answer_at security (valuation_of (S.Sheet.rows sheet.now) (λ _. net) security) (held_refusal (S.Sheet.rows sheet.now) (λ _. net) security) }
+{
+    match valuation(sheet, security, net) {
+        Valuation::Refused(refusal) => Err(refusal.at(security)),
+        valuation => Ok(valuation),
+    }
+}
+
+// What each security of a portfolio is, or the refusal of the first held security that has one.
+pub(crate) fn valuations<P: Positions, S: Sheet>(
     book: &P,
     sheet: &S,
-) -> Result<[Option<Position>; SECURITIES], Fault>
+) -> Result<[Valuation; SECURITIES], Fault>
     ensures { Values (S.Sheet.rows sheet.now) (P.Positions.nets book.now) result }
 {
-    let mut all = [None; SECURITIES];
+    let nets = book.all_nets();
+    let mut all = [Valuation::Flat; SECURITIES];
     for (security, place) in all.iter_mut().enumerate() {
-        *place = position(book, sheet, security as u16)?;
+        *place = unrefused(sheet, security as u16, nets[security])?;
     }
     Ok(all)
 }

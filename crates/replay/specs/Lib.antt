@@ -1,1 +1,3 @@
 pub mod Scripts
+pub mod Days
+pub mod Words

@@ -1,12 +1,15 @@
 // A dealer's day: the calls of a script on standard input, made at desks, and what each gave in plain words and zloty.
 #![tactic(auto)]
 
+mod answer;
 mod desks;
+mod kept;
 mod order;
 mod script;
 mod session;
 mod sheet;
 mod spoken;
+mod told;
 
 use crate::session::Session;
 

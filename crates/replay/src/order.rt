@@ -12,7 +12,7 @@ pub(crate) enum Order {
     Commit,
     Drop,
     Surcharge(Setting),
-    Deposit,
+    Deposit { classes: usize, matches: usize },
 }
 
 // What a desk is opened over.
@@ -46,6 +46,14 @@ pub(crate) enum Line {
 // A word or a line that is not understood.
 #[derive(Clone, Copy)]
 pub(crate) struct NotUnderstood;
+
+// A line of the script that is passed over, by its number: the open desk has no call for its order, or no desk is open, or the
+// line is not understood.
+#[derive(Clone, Copy)]
+pub(crate) enum PassedOver {
+    NoDeskCan { line: usize, order: Order },
+    NotUnderstood { line: usize },
+}
 
 impl FromStr for Desk {
     type Err = NotUnderstood;
@@ -122,6 +130,22 @@ fn surcharge(words: &mut SplitWhitespace<'_>) -> Result<Setting, NotUnderstood> 
     Ok(Setting { class, addition })
 }
 
+// deposit, which is handed all the memory of the desk, or deposit CLASSES MATCHES, which is handed so many places
+fn deposit(words: &mut SplitWhitespace<'_>) -> Result<Order, NotUnderstood> {
+    let Some(first) = words.next() else {
+        return Ok(Order::Deposit {
+            classes: usize::MAX,
+            matches: usize::MAX,
+        });
+    };
+    let classes: u16 = first.parse().map_err(|_| NotUnderstood)?;
+    let matches: u16 = read(words)?;
+    Ok(Order::Deposit {
+        classes: classes as usize,
+        matches: matches as usize,
+    })
+}
+
 // memory classes|matches|entries|bookings PLACES
 fn memory_named(words: &mut SplitWhitespace<'_>) -> Result<Line, NotUnderstood> {
     let of = read(words)?;
@@ -141,7 +165,7 @@ fn said(words: &mut SplitWhitespace<'_>) -> Result<Line, NotUnderstood> {
         "surcharge" => Ok(Line::Order(Order::Surcharge(surcharge(words)?))),
         "commit" => Ok(Line::Order(Order::Commit)),
         "drop" => Ok(Line::Order(Order::Drop)),
-        "deposit" => Ok(Line::Order(Order::Deposit)),
+        "deposit" => Ok(Line::Order(deposit(words)?)),
         _ => Err(NotUnderstood),
     }
 }

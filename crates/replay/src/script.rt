@@ -1,9 +1,9 @@
 // From what a dealer orders to the steps of a script.
-ghost use Rattle.replay.specs.Scripts.{own_step, setting, step_of, steps_of, trial_call};
+ghost use Rattle.replay.specs.Scripts.{Beside, NoCall, has_call, no_call, own_step, setting, step_of, trial_call};
 ghost use Rattle.replay.specs.declared.order.Order.{Order as Asked};
-ghost use Rattle.std.specs.Prelude.{◌≡◌, IfOk, None, Option};
+ghost use Rattle.std.specs.Prelude.{◌≡◌, IfOk, MatchResult, Option};
 
-use crate::order::Order;
+use crate::order::{Desk, Order};
 use histories::step::Step;
 use std::alloc::{AllocError, Global};
 use std::convert::Infallible;
@@ -21,7 +21,7 @@ pub(crate) trait OwnCall: Copy {
 }
 
 impl OwnCall for Infallible {
-    ghost asked = { λ _. None };
+    ghost asked = { no_call };
 
     fn of_order(_order: Order) -> Option<Infallible> {
         None
@@ -66,17 +66,39 @@ fn step<O: OwnCall, P: OwnCall>(order: Order) -> Option<Step<O, P>>
 {
     match order {
         Order::Book(booking) => Some(Step::Book(Call::Book(booking))),
-        Order::Deposit => Some(Step::Deposit),
+        Order::Deposit { classes, matches } => Some(Step::Deposit { classes, matches }),
         _ => own(order),
     }
 }
 
-// The steps of all orders, in their order.
+// The steps of all orders, each at the place of its order; or the first order that asks for none.
 pub(crate) fn script_of<O: OwnCall, P: OwnCall>(
     heap: Global,
     orders: &[Order],
-) -> Result<Vec<Step<O, P>>, AllocError>
-    ensures { IfOk result (λ v. v.items ≡ steps_of O.OwnCall.asked P.OwnCall.asked orders.now) }
+) -> Result<Result<Vec<Step<O, P>>, Order>, AllocError>
+    ensures { IfOk result (λ made. MatchResult made
+        (λ script. Beside O.OwnCall.asked P.OwnCall.asked orders.now script.items)
+        (λ order. NoCall O.OwnCall.asked P.OwnCall.asked orders.now order)) }
 {
-    orders.iter().filter_map(|order| step(*order)).collect(heap)
+    let mut script = Vec::new(heap);
+    for order in orders {
+        match step(*order) {
+            Some(step) => script.push(step)?,
+            None => return Ok(Err(*order)),
+        }
+    }
+    Ok(Ok(script))
+}
+
+impl Desk {
+    // Whether the desk has a call for such an order.
+    pub(crate) fn has(self, order: Order) -> bool
+        ensures { result ≡ has_call self order }
+    {
+        match self {
+            Desk::Rates | Desk::Layered => step::<TrialCall, Infallible>(order).is_some(),
+            Desk::Pairs | Desk::Stacked => step::<TrialCall, Setting>(order).is_some(),
+            Desk::Journal => step::<Infallible, Infallible>(order).is_some(),
+        }
+    }
 }

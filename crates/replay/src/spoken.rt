@@ -1,16 +1,23 @@
-// What a desk did, in plain words and zloty.
-use crate::order::{Desk, Order};
+// Desks, orders and what they gave, in plain words and zloty.
+ghost use Rattle.replay.specs.Words.{answer_lines, booking_words, buy_or_sell, day_lines, desk_words, entry_lines, order_words, outcome_lines, passed_over, refused_line, setting_words, unmade_lines};
+ghost use Rattle.std.specs.Prelude.{◌≡◌, Some, flat_map};
+
+use crate::answer::{Answer, Answers, Unmade};
+use crate::kept::KeptLine;
+use crate::order::{Desk, Order, PassedOver};
+use crate::told::TellingLines;
+use books::book::Book;
 use books::booking::Booking;
-use deposits::records::{ClassMargin, Match};
 use histories::step::Entry;
-use histories::telling::Telling;
 use std::fmt;
 use surcharges::setting::Setting;
 use terms::fault::Fault;
-use wording::units::{Amount, Leftover, Money, Percent};
+use wording::units::Percent;
 
 // A desk, and what it is opened over.
 impl fmt::Display for Desk {
+    ghost output = { λ desk. Some (desk_words desk) };
+
     fn fmt<W: fmt::Write>(&self, f: &mut fmt::Formatter<W>) -> fmt::Result {
         f.write_str(match self {
             Desk::Rates => "Desk over the rates of January 2020: a trial layer above a net table.",
@@ -24,92 +31,172 @@ impl fmt::Display for Desk {
     }
 }
 
+// Kept: these two words are a dealer's, said of a signed quantity, which has no `Side` beside it.
+fn buy_or_sell_of(quantity: i64) -> &'static str
+    ensures { result.now ≡ buy_or_sell quantity }
+{
+    if quantity < 0 { "sell" } else { "buy" }
+}
+
+// A booking, as a dealer says it.
+#[derive(Clone, Copy)]
+struct BookingWords(Booking);
+
+impl fmt::Display for BookingWords {
+    ghost output = { λ words. Some (booking_words words.0) };
+
+    fn fmt<W: fmt::Write>(&self, f: &mut fmt::Formatter<W>) -> fmt::Result {
+        let Booking { security, quantity } = self.0;
+        let side = buy_or_sell_of(quantity);
+        let units = quantity.unsigned_abs();
+        write!(f, "{side} {units} of security {security}")
+    }
+}
+
+// What a surcharge is set to.
+#[derive(Clone, Copy)]
+struct SettingWords(Setting);
+
+impl fmt::Display for SettingWords {
+    ghost output = { λ words. Some (setting_words words.0) };
+
+    fn fmt<W: fmt::Write>(&self, f: &mut fmt::Formatter<W>) -> fmt::Result {
+        let Setting { class, addition } = self.0;
+        let y = Percent(addition.y);
+        let x = Percent(addition.x);
+        write!(f, "add {y} to y and {x} to x of class {class}")
+    }
+}
+
 // A call, as a dealer says it.
 impl fmt::Display for Order {
+    ghost output = { λ order. Some (order_words order) };
+
+    #[tactic(auto, unfolding(crate::specs::Words::order_words))]
     fn fmt<W: fmt::Write>(&self, f: &mut fmt::Formatter<W>) -> fmt::Result {
         match *self {
-            Order::Book(Booking { security, quantity }) => {
-                // Kept: these two words are a dealer's, said of a signed quantity, which has no `Side` beside it.
-                let side = if quantity < 0 { "sell" } else { "buy" };
-                let units = quantity.unsigned_abs();
-                write!(f, "{side} {units} of security {security}")
-            }
+            Order::Book(booking) => BookingWords(booking).fmt(f),
             Order::Commit => f.write_str("commit"),
             Order::Drop => f.write_str("drop the trial"),
-            Order::Deposit => f.write_str("deposit"),
-            Order::Surcharge(Setting { class, addition }) => {
-                let y = Percent(addition.y);
-                let x = Percent(addition.x);
-                write!(f, "add {y} to y and {x} to x of class {class}")
+            Order::Deposit { .. } => f.write_str("deposit"),
+            Order::Surcharge(setting) => SettingWords(setting).fmt(f),
+        }
+    }
+}
+
+impl fmt::Display for PassedOver {
+    ghost output = { λ passed. Some (passed_over passed) };
+
+    fn fmt<W: fmt::Write>(&self, f: &mut fmt::Formatter<W>) -> fmt::Result {
+        match *self {
+            PassedOver::NoDeskCan { line, order } => {
+                write!(f, "line {line} is passed over: no open desk can {order}")
+            }
+            PassedOver::NotUnderstood { line } => {
+                write!(f, "line {line} is passed over: it is not understood")
             }
         }
     }
 }
 
-pub(crate) fn say_fault(rt: &HostRuntime, fault: Fault) -> anyhow::Result<()> {
-    println!(rt; "  refused: {fault}")?;
-    Ok(())
-}
+// Why a call was refused.
+#[derive(Clone, Copy)]
+struct RefusedLine(Fault);
 
-// Kept: replay and gap end the line of the parts in other ways; a type of four amounts, filled in both, is no plainer.
-fn say_class(rt: &HostRuntime, number: usize, class: &ClassMargin) -> anyhow::Result<()> {
-    let bought = Amount(class.bought.units());
-    let sold = Amount(class.sold.units());
-    let leftover = Leftover(class.leftover);
-    println!(rt; "  class {number}: {bought} bought, {sold} sold; left over: {leftover}")?;
-    let drr = Money(class.drr.grosz());
-    let drs = Money(class.drs.grosz());
-    let dswk = Money(class.dswk.grosz());
-    let kspk = Money(class.kspk.grosz());
-    let dolr = Money(class.dolr.grosz());
-    println!(rt; "    DRR {drr} + DRS {drs} + DSWK {dswk} - KSPK {kspk} = {dolr} zloty")?;
-    Ok(())
-}
+impl fmt::Display for RefusedLine {
+    ghost output = { λ line. Some (refused_line line.0) };
 
-// Kept: no plainer: wording knows no Match, and a crate for this one line, which gap does not indent, would stand on deposits.
-fn say_match(rt: &HostRuntime, pair: &Match) -> anyhow::Result<()> {
-    let first = pair.first;
-    let second = pair.second;
-    let matched = Amount(pair.matched.units());
-    println!(rt; "  classes {first} and {second}: {matched} matched")?;
-    Ok(())
-}
-
-fn say_telling(rt: &HostRuntime, telling: &Telling) -> anyhow::Result<()> {
-    let dspan = Money(telling.summary.dspan.grosz());
-    // Kept: the summary is DSPAN, C, N and R (a rule of the project); a type of its three counts would be made to be printed.
-    let classes = telling.summary.classes;
-    let securities = telling.summary.securities;
-    let pairs = telling.summary.pairs;
-    println!(rt;
-        "  {dspan} zloty (held: classes {classes}, securities {securities}, pairs {pairs})"
-    )?;
-    for (number, class) in telling.classes.iter().enumerate() {
-        if class.held {
-            say_class(rt, number, class)?;
-        }
+    fn fmt<W: fmt::Write>(&self, f: &mut fmt::Formatter<W>) -> fmt::Result {
+        let fault = self.0;
+        writeln!(f, "  refused: {fault}")
     }
-    for pair in telling.matches.iter().flatten() {
-        say_match(rt, pair)?;
-    }
-    Ok(())
 }
 
 // What a call gave.
-fn say_entry(rt: &HostRuntime, entry: &Entry) -> anyhow::Result<()> {
-    match entry {
-        Entry::Done(Ok(())) => println!(rt; "  done")?,
-        Entry::Told(Ok(telling)) => say_telling(rt, telling)?,
-        Entry::Done(Err(fault)) | Entry::Told(Err(fault)) => say_fault(rt, *fault)?,
+#[derive(Clone, Copy)]
+struct EntryLines<'a>(&'a Entry);
+
+impl fmt::Display for EntryLines<'_> {
+    ghost output = { λ lines. Some (entry_lines lines.0.now) };
+
+    fn fmt<W: fmt::Write>(&self, f: &mut fmt::Formatter<W>) -> fmt::Result {
+        match self.0 {
+            Entry::Done(Ok(())) => writeln!(f, "  done"),
+            Entry::Told(Ok(telling)) => TellingLines(telling).fmt(f),
+            Entry::Done(Err(fault)) | Entry::Told(Err(fault)) => RefusedLine(*fault).fmt(f),
+        }
     }
-    Ok(())
 }
 
-// Each call and what it gave.
-pub(crate) fn say_log(rt: &HostRuntime, orders: &[Order], log: &[Entry]) -> anyhow::Result<()> {
-    for (order, entry) in orders.iter().zip(log.iter()) {
-        println!(rt; "{order}")?;
-        say_entry(rt, entry)?;
+// An order, and below it what it gave.
+impl fmt::Display for Answer {
+    ghost output = { λ answer. Some (answer_lines answer) };
+
+    #[tactic(auto, unfolding(crate::specs::Words::answer_lines))]
+    fn fmt<W: fmt::Write>(&self, f: &mut fmt::Formatter<W>) -> fmt::Result {
+        let order = self.order;
+        let entry = EntryLines(&self.entry);
+        writeln!(f, "{order}")?;
+        entry.fmt(f)
     }
-    Ok(())
+}
+
+// All answers of a desk, in their order.
+#[derive(Clone, Copy)]
+struct AnswersLines<'a>(&'a [Answer]);
+
+impl fmt::Display for AnswersLines<'_> {
+    ghost output = { λ lines. Some (flat_map answer_lines lines.0.now) };
+
+    fn fmt<W: fmt::Write>(&self, f: &mut fmt::Formatter<W>) -> fmt::Result {
+        for answer in self.0 {
+            write!(f, "{answer}")?;
+        }
+        Ok(())
+    }
+}
+
+// Why no call was made.
+impl fmt::Display for Unmade {
+    ghost output = { λ unmade. Some (unmade_lines unmade) };
+
+    fn fmt<W: fmt::Write>(&self, f: &mut fmt::Formatter<W>) -> fmt::Result {
+        writeln!(f, "no call is made")?;
+        match *self {
+            Unmade::Refused(fault) => RefusedLine(fault).fmt(f),
+            Unmade::NoCall(order) => writeln!(f, "  this desk has no call to {order}"),
+        }
+    }
+}
+
+// The answers of a desk, or why no call was made.
+#[derive(Clone, Copy)]
+struct OutcomeLines<'a>(&'a Answers);
+
+impl fmt::Display for OutcomeLines<'_> {
+    ghost output = { λ lines. Some (outcome_lines lines.0.now) };
+
+    fn fmt<W: fmt::Write>(&self, f: &mut fmt::Formatter<W>) -> fmt::Result {
+        match self.0 {
+            Ok(answers) => AnswersLines(answers).fmt(f),
+            Err(unmade) => unmade.fmt(f),
+        }
+    }
+}
+
+// The day of a desk: its answers, and what is kept beneath after them.
+#[derive(Drop)]
+pub(crate) struct DayLines<'a, B: Book> {
+    pub(crate) answers: &'a Answers,
+    pub(crate) beneath: &'a B,
+}
+
+impl<B: Book + Drop> fmt::Display for DayLines<'_, B> {
+    ghost output = { λ day. Some (day_lines day.answers.now (B.Positions.nets day.beneath.now) (B.Book.meaning.account day.beneath.now).left) };
+
+    fn fmt<W: fmt::Write>(&self, f: &mut fmt::Formatter<W>) -> fmt::Result {
+        let outcome = OutcomeLines(self.answers);
+        let kept = KeptLine(self.beneath);
+        write!(f, "{outcome}{kept}")
+    }
 }

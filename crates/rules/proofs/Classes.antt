@@ -1,11 +1,11 @@
 -- How far a class's rounded DRR + DRS + DSWK is from the exact one, and the sum of it over the classes. Assumes nothing.
-use Rattle.std.proofs.Common.{◌≡◌, ℕ, ◌+◌, ◌-◌, ◌*◌, ◌^◌, ◌<◌, ◌≤◌, min, Bool, true, false, cond, ◌&&◌, eqb, ℤ, pos, ◌-ℤ◌, nat_abs, Some, None, Option, refl, ⊎_elim, arith}
+use Rattle.std.proofs.Common.{◌≡◌, ℕ, ◌+◌, ◌-◌, ◌*◌, ◌^◌, ◌<◌, ◌≤◌, min, Bool, true, false, cond, ◌&&◌, eqb, ℤ, pos, ◌-ℤ◌, nat_abs, Some, None, Option, refl, ap, ◌∙◌, ⊎_elim, arith}
 use borrow.Author.Differences.{up, down}
-use Rattle.std.proofs.lemmas.Bool.{cases_lt}
-use Rattle.rules.specs.Sums.{sum_below}
+use Rattle.std.proofs.lemmas.Bool.{cases_lt, ne_eqb}
+use Rattle.terms.specs.Sums.{sum_below}
 use Rattle.rules.specs.declared.rows.ClassRow.{ClassRow}
 use Rattle.rules.specs.declared.rows.SecurityRow.{SecurityRow}
-use Rattle.rules.specs.Rows.{Rows, Lawful, LawfulClass, Present, figure}
+use Rattle.rules.specs.Rows.{Rows, Lawful, LawfulClass, LawfulSecurity, Present, Has, figure}
 use Rattle.rules.specs.Margin.{Rounding, rounded, exact, bought, sold, DRR, DRS, DSWK, has_class, in_class}
 use Rattle.rules.specs.Held.{held, held_in, held_class, securities_held, classes_held}
 use Rattle.rules.proofs.Parts.{minus_parts, nat_abs_is}
@@ -60,6 +60,24 @@ nothing k n rows nets c z = (
   value_in_none k n rows (λ s. up (nets s)) c (omega (arith, units_split rows nets c)),
   value_in_none k n rows (λ s. down (nets s)) c (omega (arith, units_split rows nets c)),
 )
+
+class_below : (n : ℕ) (o : Option ClassRow) (P : ClassRow → Type 0) → Has P o → Present (LawfulClass n) o → n < class_count
+class_below n (Some r) P h l = l.number
+class_below n None P h l = absurd h
+
+no_class : (rows : Rows) → Lawful rows → (c s : ℕ) → class_count ≤ c → (o : Option SecurityRow) → Present (LawfulSecurity rows s) o → has_class c o ≡ false
+no_class rows h c s b (Some r) l =
+    let k : r.class < class_count = class_below r.class (rows.classes r.class) _ l.plain (h.of_classes r.class) in
+    ne_eqb r.class c (λ e. omega arith)
+no_class rows h c s b None l = refl
+
+-- no class from class_count on is held
+pub held_none : (rows : Rows) → Lawful rows → (nets : ℕ → ℤ) (c : ℕ) → class_count ≤ c → held_in rows nets c ≡ 0
+unfolding held_in
+held_none rows h nets c b =
+    sum_same security_count (λ s. cond (in_class rows c s && held nets s) 1 0) (λ s. 0)
+    (λ s l. ap (λ (t : Bool). cond {A = ℕ} (t && held nets s) 1 0) (no_class rows h c s b (rows.securities s) (h.of_securities s)))
+    ∙ sum_zero security_count
 
 rounded_nothing : (rows : Rows) (nets : ℕ → ℤ) (c : ℕ) → held_in rows nets c ≡ 0 → risk rounded rows nets c ≡ 0
 rounded_nothing rows nets c z =

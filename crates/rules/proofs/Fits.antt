@@ -2,7 +2,7 @@
 use Rattle.std.proofs.Common.{◌≡◌, ℕ, suc, ◌+◌, ◌*◌, ◌/◌, ◌≤◌, min, Bool, true, false, cond, ℤ, pos, negsuc, ◌-ℤ◌, nat_abs, ◌≤ℤ◌, Some, None, Option, mul-le-mul_right, mul-le-mul, arith}
 use borrow.Author.Differences.{up, down, ints}
 use Rattle.rules.specs.declared.rows.SecurityRow.{SecurityRow}
-use Rattle.rules.specs.Sums.{sum_below}
+use Rattle.terms.specs.Sums.{sum_below}
 use Rattle.rules.specs.Rows.{Rows, LawfulSecurity, Present, figure}
 use Rattle.rules.specs.Margin.{rounded, amount, amount_of, factor_in, worth, in_class, value_in, bought, sold, KSPK, DSPAN}
 use Rattle.rules.specs.Laws.{value_limit, sum_limit, deposit_limit, span_limit, ValuesWithin, SumsWithin, DepositsWithin, SpansWithin}

@@ -2,7 +2,7 @@
 use Rattle.std.proofs.Common.{◌≡◌, ℕ, ◌+◌, ◌-◌, ◌*◌, ◌/◌, ◌^◌, ◌<◌, ◌≤◌, Bool, true, false, cond, ◌&&◌, List, [], ◌∷◌, ℤ, refl, ⊎_elim, le_trans, mul-le-mul_right, mul-le-mul_left, arith}
 use borrow.Author.Differences.{up, down}
 use Rattle.std.proofs.lemmas.Bool.{and_cases, cases_Bool}
-use Rattle.rules.specs.Sums.{sum_below}
+use Rattle.terms.specs.Sums.{sum_below}
 use Rattle.rules.specs.declared.rows.PairRow.{PairRow}
 use Rattle.rules.specs.Rows.{Every}
 use Rattle.rules.specs.Margin.{Rounding, rounded, exact, match_of, step, of_pair, credits}

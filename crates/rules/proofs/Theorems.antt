@@ -9,7 +9,7 @@ use Rattle.rules.specs.declared.rows.ClassRow.{ClassRow}
 use Rattle.rules.specs.declared.rows.SecurityRow.{SecurityRow}
 use Rattle.rules.specs.declared.rows.PairRow.{PairRow}
 use Rattle.rules.specs.Rows.{Rows, Lawful, LawfulClass, LawfulSecurity, LawfulPair, Present, Has, figure, Every, raised, raised_row_lem}
-use Rattle.rules.specs.Margin.{Rounding, rounded, factor_in, worth, in_class, value_in, bought, sold, net_value, credits, DRR, DRS, DSWK, KSPK}
+use Rattle.rules.specs.Margin.{Rounding, TwoSums, rounded, factor_in, worth, in_class, value_in, bought, sold, net_in, net_value, credits, DRR, DRR_from, DRS, DSWK, KSPK, KSPK_from}
 use Rattle.rules.specs.Laws.{Matching, NoNegative, Monotone, SurchargesLawful}
 use Rattle.rules.proofs.Sums.{sum_same}
 use Rattle.rules.proofs.Walk.{Apart, walk_matched, every_map}
@@ -23,7 +23,7 @@ apart_pairs rows h = every_map (λ p l. l.apart) rows.pairs h.of_pairs
 
 pub matching : Matching
 unfolding Matching
-matching k rows h nets = walk_matched (net_value k rows nets) rows.pairs (apart_pairs rows h)
+matching rows h v = walk_matched v rows.pairs (apart_pairs rows h)
 
 -- ---- no class owes less than nothing
 
@@ -39,13 +39,16 @@ capped rows p l = record {
       (or_cases (eqb c p.first) (eqb c p.second) t);
 }
 
+-- from any leftovers, the credits of a class are at most y of what was left of it
+pub credits_below : (rows : Rows) → Lawful rows → (f : ℕ → ℤ) (c : ℕ) → credits rounded f rows.pairs c ≤ rounded.part (figure (λ r. r.y) (rows.classes c)) (nat_abs (f c))
+credits_below rows h f c = omega (arith, credits_capped (y_of rows) f rows.pairs (every_map (λ p l. capped rows p l) rows.pairs h.of_pairs) c)
+
 -- the credits of a class are at most its DRR
-pub credits_within : (rows : Rows) → Lawful rows → (nets : ℕ → ℤ) (c : ℕ) → KSPK rounded rows nets c ≤ DRR rounded rows nets c
-credits_within rows h nets c =
-    omega (arith, credits_capped (y_of rows) (net_value rounded rows nets) rows.pairs (every_map (λ p l. capped rows p l) rows.pairs h.of_pairs) c)
+pub credits_within : (rows : Rows) → Lawful rows → (sums : TwoSums) (c : ℕ) → KSPK_from rounded rows sums c ≤ DRR_from rounded rows sums c
+credits_within rows h sums c = credits_below rows h (net_in sums) c
 
 pub no_negative : NoNegative
-no_negative rows h nets c = omega (arith, ints, credits_within rows h nets c)
+no_negative rows h sums c = omega (arith, ints, credits_within rows h sums c)
 
 -- ---- a surcharge lowers no deposit
 

@@ -1,7 +1,7 @@
 -- How far the rounded values and percentages are from the exact ones. Assumes nothing.
 use Rattle.std.proofs.Common.{◌≡◌, ℕ, zero, suc, ◌+◌, ◌*◌, ◌/◌, ◌^◌, ◌≤◌, min, Bool, true, false, cond, ◌&&◌, ltb, ℤ, nat_abs, Some, None, Option, sym, refl, ◌∙◌, mul-le-mul_right, mul-le-mul_left, zero-mul, arith}
 use borrow.Author.Differences.{up, down, ints}
-use Rattle.rules.specs.Sums.{sum_below}
+use Rattle.terms.specs.Sums.{sum_below}
 use Rattle.terms.specs.declared.choice.ClassKind.{ClassKind}
 use Rattle.terms.specs.declared.choice.ClassKind.TheVariants.{Liquidity, Duration}
 use Rattle.rules.specs.declared.rows.ClassRow.{ClassRow}

@@ -1,11 +1,12 @@
 -- The theorems about the margin. Assumes nothing.
-use Rattle.std.specs.Prelude.{◌≡◌, ℕ, ◌+◌, ◌*◌, ◌^◌, ◌≤◌, true, cond, ◌⊎◌, List, [], ◌∷◌, ℤ, pos, negsuc, ◌+ℤ◌, ◌-ℤ◌, ◌*ℤ◌, neg_ℤ, ◌≤ℤ◌, ◌<ℤ◌, unsigned_abs}
+use Rattle.std.specs.Prelude.{◌≡◌, ℕ, ◌+◌, ◌*◌, ◌/◌, ◌^◌, ◌≤◌, true, cond, ◌⊎◌, List, [], ◌∷◌, ℤ, pos, negsuc, ◌+ℤ◌, ◌-ℤ◌, ◌*ℤ◌, neg_ℤ, ◌≤ℤ◌, ◌<ℤ◌, unsigned_abs}
 use Rattle.rules.specs.declared.rows.PairRow.{PairRow}
 use Rattle.rules.specs.Rows.{Rows, Lawful, Every, raised}
 use Rattle.rules.specs.Tables.{Table, rows_of, table_test}
-use Rattle.rules.specs.Margin.{Rounding, rounded, exact, worth, amount_of, AmountsSmall, bought, sold, net_value, of_pair, matches, leftovers, DRR, DRS, DSWK, DOLR, DSPAN}
+use Rattle.rules.specs.Margin.{TwoSums, rounded, exact, worth, amount_of, AmountsSmall, bought, sold, of_pair, matches, leftovers, DRR, DRS, DSWK, DOLR, DOLR_from, DSPAN}
 use Rattle.rules.specs.Held.{securities_held, classes_held, pairs_held}
-use Rattle.terms.specs.Limits.{security_count, class_count, amount_limit}
+use Rattle.terms.specs.Limits.{security_count, class_count, amount_limit, duration_limit, duration_one}
+use Rattle.terms.specs.Money.{grosz_units}
 
 -- a match m as a part of a class's net value: with that value's sign
 abbrev pub part_of : ℤ → ℕ → ℤ
@@ -38,13 +39,12 @@ pub record Matched (v : ℕ → ℤ) (ps : List PairRow) (ms : List ℕ) (left :
 
 unfoldable pub Matching : Type 0
 Matching =
-    (k : Rounding) (rows : Rows) → Lawful rows → (nets : ℕ → ℤ) →
-    let v : ℕ → ℤ = net_value k rows nets in
+    (rows : Rows) → Lawful rows → (v : ℕ → ℤ) →
     Matched v rows.pairs (matches v rows.pairs) (leftovers v rows.pairs)
 
--- no class owes less than nothing
+-- no class owes less than nothing, whoever the sums are of
 abbrev pub NoNegative : Type 0
-NoNegative = (rows : Rows) → Lawful rows → (nets : ℕ → ℤ) (c : ℕ) → pos 0 ≤ℤ DOLR rounded rows nets c
+NoNegative = (rows : Rows) → Lawful rows → (sums : TwoSums) (c : ℕ) → pos 0 ≤ℤ DOLR_from rounded rows sums c
 
 -- a surcharge lowers no class's deposit: lifting it raises none
 abbrev pub Monotone : Type 0
@@ -58,15 +58,16 @@ SurchargesLawful = (rows : Rows) → Lawful rows → (a b : ℕ → ℕ) → Law
 
 -- ---- the numbers of the machine are large enough, where no amount of a position is above its limit
 
--- the largest value of a position, sum of a class, deposit of a class before its credits, and deposit of a portfolio
+-- bounds on the value of a position, the sums of a class, what a class owes before its credits, and what a portfolio owes
 abbrev pub value_limit : ℕ
-value_limit = 3 * 10 ^ 15
+value_limit = amount_limit / duration_one * duration_limit
 
 abbrev pub sum_limit : ℕ
 sum_limit = security_count * value_limit
 
+-- three parts, each at most the sums in grosz, and one more where it is rounded up
 abbrev pub deposit_limit : ℕ
-deposit_limit = 24 * 10 ^ 15
+deposit_limit = 3 * (sum_limit / grosz_units + 1)
 
 abbrev pub span_limit : ℕ
 span_limit = class_count * deposit_limit

@@ -1,4 +1,3 @@
-pub mod Sums
 pub mod Rows
 pub mod Tables
 pub mod Margin

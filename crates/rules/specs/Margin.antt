@@ -9,7 +9,7 @@ use Rattle.terms.specs.Money.{at_price_lem, in_zloty, by_duration, percentage, c
 use Rattle.rules.specs.declared.rows.ClassRow.{ClassRow}
 use Rattle.rules.specs.declared.rows.SecurityRow.{SecurityRow}
 use Rattle.rules.specs.declared.rows.PairRow.{PairRow}
-use Rattle.rules.specs.Sums.{sum_below, sum_belowℤ}
+use Rattle.terms.specs.Sums.{sum_below, sum_belowℤ}
 use Rattle.rules.specs.Rows.{Rows, figure}
 
 -- ---- what is rounded, and how
@@ -86,16 +86,27 @@ position_value q r kind = valuation (at_price_lem q r.price) r.rate (factor kind
 unfoldable pub value_in : Rounding → Rows → (ℕ → ℕ) → ℕ → ℕ
 value_in k rows units c = sum_below security_count (λ s. cond (in_class rows c s) (worth k rows (units s) (rows.securities s)) 0)
 
--- PK and PS. `up n` are the units bought at a net n, and `down n` those sold
-abbrev pub bought : Rounding → Rows → (ℕ → ℤ) → ℕ → ℕ
-bought k rows nets = value_in k rows (λ s. up (nets s))
-
-abbrev pub sold : Rounding → Rows → (ℕ → ℤ) → ℕ → ℕ
-sold k rows nets = value_in k rows (λ s. down (nets s))
+-- the two sums of every class, PK and PS
+pub record TwoSums : Type 0 where
+  pub bought : ℕ → ℕ
+  pub sold : ℕ → ℕ
 
 -- PK − PS
+abbrev pub net_in : TwoSums → ℕ → ℤ
+net_in sums c = pos (sums.bought c) -ℤ pos (sums.sold c)
+
+-- those of a portfolio. `up n` are the units bought at a net n, and `down n` those sold
+abbrev pub sums_of : Rounding → Rows → (ℕ → ℤ) → TwoSums
+sums_of k rows nets = record { bought = value_in k rows (λ s. up (nets s)); sold = value_in k rows (λ s. down (nets s)) }
+
+abbrev pub bought : Rounding → Rows → (ℕ → ℤ) → ℕ → ℕ
+bought k rows nets = (sums_of k rows nets).bought
+
+abbrev pub sold : Rounding → Rows → (ℕ → ℤ) → ℕ → ℕ
+sold k rows nets = (sums_of k rows nets).sold
+
 abbrev pub net_value : Rounding → Rows → (ℕ → ℤ) → ℕ → ℤ
-net_value k rows nets c = pos (bought k rows nets c) -ℤ pos (sold k rows nets c)
+net_value k rows nets = net_in (sums_of k rows nets)
 
 -- ---- the walk over the pairs
 
@@ -143,28 +154,50 @@ abbrev pub credits : Rounding → (ℕ → ℤ) → List PairRow → ℕ → ℕ
 credits k f [] c = 0
 credits k f (p ∷ ps) c = cond (of_pair p c) (k.credit p.crt (match_of f p)) 0 + credits k (step f p) ps c
 
--- ---- the deposit of a class, and of the portfolio
+-- ---- the deposit of a class and of the portfolio, from the sums of the classes, whoever they are of
 
--- y of |PK − PS|
-abbrev pub DRR : Rounding → Rows → (ℕ → ℤ) → ℕ → ℕ
-DRR k rows nets c = k.part (figure (λ r. r.y) (rows.classes c)) (unsigned_abs (net_value k rows nets c))
+module _ (k : Rounding) (rows : Rows) (sums : TwoSums) where
+  -- y of |PK − PS|
+  abbrev pub DRR_from : ℕ → ℕ
+  DRR_from c = k.part (figure (λ r. r.y) (rows.classes c)) (unsigned_abs (net_in sums c))
 
--- x of PK + PS
-abbrev pub DRS : Rounding → Rows → (ℕ → ℤ) → ℕ → ℕ
-DRS k rows nets c = k.part (figure (λ r. r.x) (rows.classes c)) (bought k rows nets c + sold k rows nets c)
+  -- x of PK + PS
+  abbrev pub DRS_from : ℕ → ℕ
+  DRS_from c = k.part (figure (λ r. r.x) (rows.classes c)) (sums.bought c + sums.sold c)
 
--- dep of the smaller of PK and PS
-abbrev pub DSWK : Rounding → Rows → (ℕ → ℤ) → ℕ → ℕ
-DSWK k rows nets c = k.part (figure (λ r. r.dep) (rows.classes c)) (min (bought k rows nets c) (sold k rows nets c))
+  -- dep of the smaller of PK and PS
+  abbrev pub DSWK_from : ℕ → ℕ
+  DSWK_from c = k.part (figure (λ r. r.dep) (rows.classes c)) (min (sums.bought c) (sums.sold c))
 
--- the credits of the class
-abbrev pub KSPK : Rounding → Rows → (ℕ → ℤ) → ℕ → ℕ
-KSPK k rows nets c = credits k (net_value k rows nets) rows.pairs c
+  -- the credits of the class
+  abbrev pub KSPK_from : ℕ → ℕ
+  KSPK_from c = credits k (net_in sums) rows.pairs c
 
--- what a class owes
-abbrev pub DOLR : Rounding → Rows → (ℕ → ℤ) → ℕ → ℤ
-DOLR k rows nets c = pos (DRR k rows nets c + DRS k rows nets c + DSWK k rows nets c) -ℤ pos (KSPK k rows nets c)
+  -- what a class owes
+  abbrev pub DOLR_from : ℕ → ℤ
+  DOLR_from c = pos (DRR_from c + DRS_from c + DSWK_from c) -ℤ pos (KSPK_from c)
 
--- what the portfolio owes
-abbrev pub DSPAN : Rounding → Rows → (ℕ → ℤ) → ℤ
-DSPAN k rows nets = sum_belowℤ class_count (DOLR k rows nets)
+  -- what the portfolio owes
+  abbrev pub DSPAN_from : ℤ
+  DSPAN_from = sum_belowℤ class_count DOLR_from
+
+-- ---- the same of the nets of a portfolio
+
+module _ (k : Rounding) (rows : Rows) (nets : ℕ → ℤ) where
+  abbrev pub DRR : ℕ → ℕ
+  DRR = DRR_from k rows (sums_of k rows nets)
+
+  abbrev pub DRS : ℕ → ℕ
+  DRS = DRS_from k rows (sums_of k rows nets)
+
+  abbrev pub DSWK : ℕ → ℕ
+  DSWK = DSWK_from k rows (sums_of k rows nets)
+
+  abbrev pub KSPK : ℕ → ℕ
+  KSPK = KSPK_from k rows (sums_of k rows nets)
+
+  abbrev pub DOLR : ℕ → ℤ
+  DOLR = DOLR_from k rows (sums_of k rows nets)
+
+  abbrev pub DSPAN : ℤ
+  DSPAN = DSPAN_from k rows (sums_of k rows nets)

@@ -7,7 +7,7 @@ use terms::choice::ClassKind;
 use terms::limits::{DURATION_FLOOR, DURATION_ONE};
 use terms::money::{Quotation, Zloty};
 
-// The duration that a security counts with in a class of this kind: 1 under liquidity, else its own, and at least 0.5.
+/// The duration that a security counts with in a class of this kind: 1 under liquidity, else its own, and at least 0.5.
 pub fn counted_duration(kind: ClassKind, duration: u32) -> u32
     ensures { result ≡ factor kind duration }
 {
@@ -17,7 +17,7 @@ pub fn counted_duration(kind: ClassKind, duration: u32) -> u32
     }
 }
 
-// The row of a security, and the kind of its class.
+/// The row of a security, and the kind of its class.
 #[derive(Clone, Copy, PartialEq, Eq, Debug)]
 pub struct PricedSecurity {
     pub row: SecurityRow,
@@ -25,7 +25,7 @@ pub struct PricedSecurity {
 }
 
 impl PricedSecurity {
-    // The amounts A and V of a net quantity of the security, if A is at most the limit of a position.
+    /// The amounts A and V of a net quantity of the security, if A is at most the limit of a position.
     // Kept: A and V are a pair, a rule of the project.
     pub fn valuation(self, net: i64) -> Option<(Zloty, Zloty)>
         ensures { result ≡ position_value (unsigned_abs net) self.row self.kind }

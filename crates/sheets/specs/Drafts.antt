@@ -1,10 +1,11 @@
 -- What a draft takes: the questions put to a row, and the rows once it is taken. Assumes nothing.
-use Rattle.std.specs.Prelude.{◌≡◌, ℕ, true, false, not, ◌&&◌, [], ◌∷◌, ◌++◌, length, is_some, is_ok, Some, None, Option, Result, nat_eq, nat_lt}
+use Rattle.std.specs.Prelude.{ℕ, not, ◌&&◌, [], ◌∷◌, ◌++◌, length, is_some, Some, None, Option, Result, nat_eq, nat_lt}
 use Rattle.std.specs.Map.{update}
 use Rattle.terms.specs.Limits.{security_count, class_count, pair_limit}
-use Rattle.terms.specs.Questions.{ask, answer}
+use Rattle.terms.specs.Questions.{ask}
+use Rattle.terms.specs.Outcomes.{Step}
+use Rattle.terms.specs.Refusals.{refused_at}
 use Rattle.terms.specs.declared.fault.Fault.{Fault}
-use Rattle.terms.specs.declared.layer.Layer.TheVariants.{Sheet}
 use Rattle.terms.specs.declared.refusal.Refusal.{Refusal}
 use Rattle.terms.specs.declared.refusal.Refusal.TheVariants.{UnknownClass, RepeatedClass, UnlawfulClass, UnknownOrRepeatedSecurity, ClassWithoutRow, UnlawfulSecurity, UnlawfulPair, CreditAboveRate, TooManyPairs}
 use Rattle.rules.specs.declared.rows.ClassRow.{ClassRow}
@@ -53,12 +54,8 @@ pair_refusal rows pair =
     None))
 
 -- What a call does that adds a row, for a draft that means `rows`: it is put these questions at this place, and the rows with the row are `more`.
-pub record Takes {D : Type 0} (rows : D → Rows) (before : D) (place : ℕ) (refusal : Option Refusal) (more : Rows) (result : Result (Unit {0}) Fault) (after : D) : Type 0 where
-  pub decided : result ≡ answer Sheet place tt refusal
-  -- a refusal changes nothing
-  pub refused : is_ok result ≡ false → after ≡ before
-  -- else there is this row more, and all others are as they were
-  pub taken : is_ok result ≡ true → rows after ≡ more
+abbrev pub Takes : {D : Type 0} → (D → Rows) → D → ℕ → Option Refusal → Rows → Result (Unit {0}) Fault → D → Type 0
+Takes rows before place refusal more result after = Step rows (refused_at place refusal) more before result after
 
 -- ---- what the three calls of a draft do
 

@@ -8,14 +8,14 @@ use crate::table::RowTable;
 use rules::rows::{ClassRow, PairRow, SecurityRow};
 use terms::fault::Fault;
 
-// Its rows are lawful at every moment.
+/// Its rows are lawful at every moment.
 #[derive(Drop)]
 pub struct Draft {
     table: RowTable,
 }
 
 impl Draft {
-    // No class, no security, no pair.
+    /// No class, no security, no pair.
     pub fn new() -> Self
         ensures { draft_rows result ≡ no_rows }
     {
@@ -24,8 +24,9 @@ impl Draft {
         }
     }
 
-    // The row of a class: refusals 10, 11 and 12.
+    /// The row of a class: refusals 10, 11 and 12.
     // Kept: each kind of row has questions, a place and refusals of its own; a trait over the three would say no more.
+    #[tactic(auto, using(terms::proofs::Answered::unrefused))]
     pub fn add_class(&mut self, class: u16, row: ClassRow) -> Result<(), Fault>
         ensures { TakesClass draft_rows self.old class row result self.new }
     {
@@ -34,7 +35,8 @@ impl Draft {
         Ok(())
     }
 
-    // The row of a security, once its class has one: refusals 13, 14 and 15.
+    /// The row of a security, once its class has one: refusals 13, 14 and 15.
+    #[tactic(auto, using(terms::proofs::Answered::unrefused))]
     pub fn add_security(&mut self, security: u16, row: SecurityRow) -> Result<(), Fault>
         ensures { TakesSecurity draft_rows self.old security row result self.new }
     {
@@ -43,7 +45,8 @@ impl Draft {
         Ok(())
     }
 
-    // A pair, after those that are there: refusals 16, 17 and 18.
+    /// A pair, after those that are there: refusals 16, 17 and 18.
+    #[tactic(auto, using(terms::proofs::Answered::unrefused))]
     pub fn add_pair(&mut self, pair: PairRow) -> Result<(), Fault>
         ensures { TakesPair draft_rows self.old pair result self.new }
     {
@@ -52,7 +55,7 @@ impl Draft {
         Ok(())
     }
 
-    // Uses the draft up. Its rows are lawful already, so that nothing is refused.
+    /// Uses the draft up. Its rows are lawful already, so that nothing is refused.
     pub fn put_in_force(self) -> RateSheet
         ensures whole { result.table ≡ self.table }
         ensures rows { sheet_rows result ≡ draft_rows self }

@@ -68,7 +68,7 @@ const SECURITY_ROWS: [SecurityRow; 2] = [
     },
 ];
 
-// The fixed table.
+/// The fixed table.
 #[derive(Clone, Copy)]
 pub struct DurationRates2020;
 

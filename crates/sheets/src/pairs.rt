@@ -9,7 +9,7 @@ use crate::sheet::Sheet;
 use rules::rows::PairRow;
 use std::marker::Model;
 
-// A sheet, and the place of the pair that comes next. It is seen as the list of the pairs that are left.
+/// A sheet, and the place of the pair that comes next. It is seen as the list of the pairs that are left.
 // Kept: no plainer: `pair` is public, and a slice beside it would ask more of each sheet; a chain over `(0..)` has no type that
 // can be handed out; so the place is counted.
 #[derive(Drop)]
@@ -27,7 +27,7 @@ impl<'a, S: Sheet> Model for Pairs<'a, S> {
     ghost view = { λ p. drop p.place (S.Sheet.rows p.sheet.now).pairs };
 }
 
-// The pairs of a sheet, from the first on.
+/// The pairs of a sheet, from the first on.
 #[tactic(auto, using(crate::proofs::Passing::left_runs))]
 pub fn pairs_of<S: Sheet>(sheet: &S) -> Pairs<'_, S>
     ensures left { result ≡ (S.Sheet.rows sheet.now).pairs }

@@ -7,7 +7,7 @@ use crate::sheet::Sheet;
 use crate::table::RowTable;
 use rules::rows::{ClassRow, PairRow, SecurityRow};
 
-// The rows of the draft that was put in force.
+/// The rows of the draft that was put in force.
 #[derive(Drop)]
 pub struct RateSheet {
     table: RowTable,

@@ -2,7 +2,7 @@
 ghost use Rattle.std.specs.Prelude.{◌≤◌};
 ghost use Rattle.terms.specs.Limits.{whole};
 
-// Each in 10^-5 of the whole, which none is above.
+/// Each in 10^-5 of the whole, which none is above.
 // Kept: no plainer: a ClassRow may be unlawful before it is judged, and Rates never are; a third type for y, x and dep, which
 // both would hold, would be named at each use.
 #[derive(Clone, Copy)]

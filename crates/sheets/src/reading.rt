@@ -1,14 +1,12 @@
 // Reading a sheet of any kind.
 ghost use Rattle.sheets.specs.Readings.{figures_of, rates_in, with_kind};
-ghost use Rattle.sheets.specs.Sheets.{draft_rows};
 ghost use Rattle.std.specs.Prelude.{◌≡◌, is_some};
 
-use crate::draft::Draft;
 use crate::rates::Rates;
 use crate::sheet::Sheet;
 use rules::position::PricedSecurity;
 
-// The rates of a class, 0 where it has no row.
+/// The rates of a class, 0 where it has no row.
 // Kept: the match knows that the row is lawful; a closure of `map_or` would have to require it, and `From<ClassRow>` may not.
 pub fn rates_of<S: Sheet>(sheet: &S, class: u16) -> Rates
     ensures { figures_of result ≡ rates_in ((S.Sheet.rows sheet.now).classes class) }
@@ -23,7 +21,7 @@ pub fn rates_of<S: Sheet>(sheet: &S, class: u16) -> Rates
     }
 }
 
-// The row of a security, and the kind of its class. Where there is the one, there is the other.
+/// The row of a security, and the kind of its class. Where there is the one, there is the other.
 pub fn priced_security<S: Sheet>(sheet: &S, security: u16) -> Option<PricedSecurity>
     ensures row { result ≡ with_kind (S.Sheet.rows sheet.now) ((S.Sheet.rows sheet.now).securities security) }
     ensures listed { is_some result ≡ is_some ((S.Sheet.rows sheet.now).securities security) }
@@ -34,12 +32,4 @@ pub fn priced_security<S: Sheet>(sheet: &S, security: u16) -> Option<PricedSecur
         row,
         kind: class.kind,
     })
-}
-
-// The rates of a class once a draft is in force: those of its row in the draft.
-pub fn rates_in_force(draft: Draft, class: u16) -> Rates
-    ensures { figures_of result ≡ rates_in ((draft_rows draft).classes class) }
-{
-    let sheet = draft.put_in_force();
-    rates_of(&sheet, class)
 }

@@ -1,9 +1,10 @@
 -- What a surcharge means: additions to the y and the x of each class of the sheet below. Assumes nothing.
-use Rattle.std.specs.Prelude.{◌≡◌, ℕ, Bool, true, false, cond, ◌&&◌, is_ok, None, Option, Result, ◌==◌, nat_le, nat_lt}
+use Rattle.std.specs.Prelude.{ℕ, Bool, true, false, cond, ◌&&◌, None, Option, Result, ◌==◌, nat_le, nat_lt}
 use Rattle.terms.specs.Limits.{class_count, whole}
-use Rattle.terms.specs.Questions.{ask, answer}
+use Rattle.terms.specs.Questions.{ask}
+use Rattle.terms.specs.Outcomes.{Step}
+use Rattle.terms.specs.Refusals.{answer_at, refused_at}
 use Rattle.terms.specs.declared.fault.Fault.{Fault}
-use Rattle.terms.specs.declared.layer.Layer.TheVariants.{Surcharge}
 use Rattle.terms.specs.declared.refusal.Refusal.{Refusal}
 use Rattle.terms.specs.declared.refusal.Refusal.TheVariants.{UnknownSurchargeClass, AdditionOutOfRange}
 use Rattle.std.specs.declared.convert.Infallible.{Infallible}
@@ -30,7 +31,7 @@ setting_refusal s =
     None)
 
 abbrev pub setting_answer : Setting → Result (Unit {0}) Fault
-setting_answer s = answer Surcharge s.class tt (setting_refusal s)
+setting_answer s = answer_at s.class tt (setting_refusal s)
 
 -- f with the value v at a class
 abbrev pub put_at : (ℕ → ℕ) → ℕ → ℕ → ℕ → ℕ
@@ -46,11 +47,9 @@ set_by a s false = a
 set_by a s true = after_setting a s
 
 -- What a setting does, for a surcharge with these additions.
-pub record Sets {S : Type 0} (additions : S → Additions) (before : S) (setting : Setting) (result : Result (Unit {0}) Fault) (after : S) : Type 0 where
-  pub decided : result ≡ setting_answer setting
-  -- a refusal changes nothing
-  pub refused : is_ok result ≡ false → after ≡ before
-  pub replaced : additions after ≡ set_by (additions before) setting (is_ok result)
+abbrev pub Sets : {S : Type 0} → (S → Additions) → S → Setting → Result (Unit {0}) Fault → S → Type 0
+Sets additions before setting result after =
+    Step additions (refused_at setting.class (setting_refusal setting)) (after_setting (additions before) setting) before result after
 
 -- with no surcharge there is no setting
 abbrev pub no_setting : Infallible → Setting

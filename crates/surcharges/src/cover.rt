@@ -8,12 +8,12 @@ ghost use Rattle.surcharges.specs.declared.setting.Setting.{Setting as Asked};
 use sheets::sheet::Sheet;
 use terms::fault::Fault;
 
-// A sheet that is another one with additions. With no surcharge the additions are 0, and no setting can be made.
+/// A sheet that is another one with additions. With no surcharge the additions are 0, and no setting can be made.
 pub trait Cover: Sheet + Sized {
-    // The sheet that it is opened over.
+    /// The sheet that it is opened over.
     type Below: Sheet;
 
-    // The calls that only this top has.
+    /// The calls that only this top has.
     type Own;
 
     // The rows of the sheet below.
@@ -28,12 +28,12 @@ pub trait Cover: Sheet + Sized {
     // Each of its own calls is a setting.
     ghost means: { Self.Own → Asked };
 
-    // Opens over a sheet, with nothing added.
+    /// Opens over a sheet, with nothing added.
     fn open(below: Self::Below) -> Self
         ensures under { under result ≡ Self.Below.Sheet.rows below }
         ensures additions { additions result ≡ no_additions };
 
-    // Makes one of its own calls, or none: with none, nothing changes.
+    /// Makes one of its own calls, or none: with none, nothing changes.
     // Kept: a method that takes a call of a type without values is a contract that no call can meet, so a call may be none.
     fn call(&mut self, own: Option<&Self::Own>) -> Result<(), Fault>
         ensures answer { IfSome own.entry (λ o. result ≡ setting_answer (means o.now)) }
@@ -47,7 +47,7 @@ pub trait Cover: Sheet + Sized {
     ghost shown: { (s : Self) → Self.Sheet.rows s ≡ with_additions (additions s) (under s) };
 }
 
-// Makes one of a cover's own calls.
+/// Makes one of a cover's own calls.
 pub fn call_own<U: Cover>(cover: &mut U, own: &U::Own) -> Result<(), Fault>
     ensures answer { result ≡ setting_answer (U.Cover.means own.now) }
     ensures additions { U.Cover.additions cover.new ≡ set_by (U.Cover.additions cover.old) (U.Cover.means own.now) (is_ok result) }

@@ -8,7 +8,7 @@ use sheets::sheet::Sheet;
 use std::convert::Infallible;
 use terms::fault::Fault;
 
-// The sheet alone.
+/// The sheet alone.
 #[derive(Drop)]
 pub struct Plain<S: Sheet> {
     sheet: S,

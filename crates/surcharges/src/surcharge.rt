@@ -13,7 +13,7 @@ use rules::rows::{ClassRow, PairRow, SecurityRow};
 use sheets::sheet::Sheet;
 use terms::fault::Fault;
 
-// The sheet below, and what is added to it.
+/// The sheet below, and what is added to it.
 #[derive(Drop)]
 pub struct Surcharge<S: Sheet> {
     below: S,
@@ -21,7 +21,7 @@ pub struct Surcharge<S: Sheet> {
 }
 
 impl<S: Sheet> Surcharge<S> {
-    // Every addition is 0.
+    /// Every addition is 0.
     pub fn open(below: S) -> Self
         ensures below { result.below ≡ below }
         ensures additions { additions_in result.additions ≡ no_additions }
@@ -32,7 +32,7 @@ impl<S: Sheet> Surcharge<S> {
         }
     }
 
-    // Replaces the addition to the y and the x of a class: refusals 25 and 26.
+    /// Replaces the addition to the y and the x of a class: refusals 25 and 26.
     pub fn set(&mut self, setting: Setting) -> Result<(), Fault>
         ensures sets { Sets (λ s. additions_in s.additions) self.old setting result self.new }
         ensures below { self.new.below ≡ self.old.below }
@@ -81,6 +81,7 @@ impl<S: Sheet> Cover for Surcharge<S> {
         Surcharge::open(below)
     }
 
+    #[tactic(auto, using(crate::proofs::Settings::setting_decided, crate::proofs::Settings::setting_made))]
     fn call(&mut self, own: Option<&Setting>) -> Result<(), Fault> {
         // Kept: tried; a closure of `map_or` lends the surcharge, and what it holds after the call stays open.
         match own {

@@ -3,20 +3,30 @@ use Rattle.std.proofs.Common.{◌≡◌, ℕ, Some, None, Ok, Err, Option, refl,
 use Rattle.terms.specs.declared.fault.Fault.{Fault}
 use Rattle.terms.specs.declared.layer.Layer.{Layer}
 use Rattle.terms.specs.declared.refusal.Refusal.{Refusal}
-use Rattle.terms.specs.Questions.{ask, answer, fault}
+use Rattle.terms.specs.Questions.{ask, fault_of}
+use Rattle.terms.specs.Refusals.{answer_at, fault_at, refused_at}
 
 -- an accepted call: no question was answered no
-pub answer_ok : {V : Type 0} (layer : Layer) (place : ℕ) (value v : V) (questions : Option Refusal) → Ok v ≡ answer layer place value questions → questions ≡ None
-answer_ok layer place value v None e = refl
-answer_ok layer place value v (Some refusal) e = let z : ◌≡◌ {A = ℕ} 0 1 = cc in absurd (omega arith)
+pub answer_ok : {V : Type 0} (place : ℕ) (value v : V) (questions : Option Refusal) → Ok v ≡ answer_at place value questions → questions ≡ None
+answer_ok place value v None e = refl
+answer_ok place value v (Some refusal) e = let z : ◌≡◌ {A = ℕ} 0 1 = cc in absurd (omega arith)
 
 -- a refused call: its fault is that of the question
-pub answer_err : {V : Type 0} (layer : Layer) (place : ℕ) (value : V) (questions : Option Refusal) (f : Fault) → Err f ≡ answer layer place value questions
-    → (refusal : Refusal) × (questions ≡ Some refusal) × (f ≡ fault layer place refusal)
-answer_err layer place value None f e = let z : ◌≡◌ {A = ℕ} 0 1 = cc in absurd (omega arith)
-answer_err layer place value (Some refusal) f e = (refusal, refl, cc)
+pub answer_err : {V : Type 0} (place : ℕ) (value : V) (questions : Option Refusal) (f : Fault) → Err f ≡ answer_at place value questions
+    → (refusal : Refusal) × (questions ≡ Some refusal) × (f ≡ fault_at place refusal)
+answer_err place value None f e = let z : ◌≡◌ {A = ℕ} 0 1 = cc in absurd (omega arith)
+answer_err place value (Some refusal) f e = (refusal, refl, cc)
 
 -- a question that is answered yes, where the call is not refused
 pub asked : {R : Type 0} (b : Bool) (o : Option R) (e : R) → ask b e o ≡ None → (b ≡ true) × (o ≡ None)
 asked true o e h = (refl, h)
 asked false o e h = let z : ◌≡◌ {A = ℕ} 0 1 = cc in absurd (omega arith)
+
+-- no fault is no refusal
+pub unfaulted : (layer : Layer) (place : ℕ) (o : Option Refusal) → fault_of layer place o ≡ None → o ≡ None
+unfaulted layer place None e = refl
+unfaulted layer place (Some refusal) e = let z : ◌≡◌ {A = ℕ} 0 1 = cc in absurd (omega arith)
+
+pub unrefused : (place : ℕ) (o : Option Refusal) → refused_at place o ≡ None → o ≡ None
+unrefused place None e = refl
+unrefused place (Some refusal) e = let z : ◌≡◌ {A = ℕ} 0 1 = cc in absurd (omega arith)

@@ -1,5 +1,10 @@
 pub mod Choices
+pub mod Faults
 pub mod Limits
 pub mod Money
 pub mod Numbers
+pub mod Outcomes
 pub mod Questions
+pub mod Refusals
+pub mod Sums
+pub mod Texts

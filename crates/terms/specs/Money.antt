@@ -1,7 +1,19 @@
 -- Amounts of money, and the only ways from one kind to the next. Assumes nothing.
-use Rattle.std.specs.Prelude.{ℕ, ◌+◌, ◌*◌, ◌/◌, cond, Some, None, Option, nat_le}
+use Rattle.std.specs.Prelude.{◌≡◌, ℕ, ◌+◌, ◌-◌, ◌*◌, ◌/◌, ◌^◌, ◌≤◌, cond, min, Some, None, Option, nat_le}
 use Rattle.terms.specs.declared.money.Zloty.{Zloty}
 use Rattle.terms.specs.Limits.{whole, duration_one, amount_limit}
+
+-- the largest amount, in zloty units or in grosz
+abbrev pub largest : ℕ
+largest = 2 ^ 64 - 1
+
+-- the largest signed amount, in zloty units
+abbrev pub largest_signed : ℕ
+largest_signed = 2 ^ 63 - 1
+
+-- The sum of two amounts: the largest amount where they come to more, so exact where they do not.
+abbrev pub Sums : ℕ → ℕ → ℕ → Type 0
+Sums a b sum = (sum ≡ min (a + b) largest) × (a + b ≤ largest → sum ≡ a + b)
 
 -- a division to nearest, halves up
 abbrev pub nearest : ℕ → ℕ → ℕ

@@ -22,3 +22,8 @@ fault_of layer place (Some refusal) = Some (fault layer place refusal)
 abbrev pub answer : {V : Type 0} → Layer → ℕ → V → Option Refusal → Result V Fault
 answer layer place value None = Ok value
 answer layer place value (Some refusal) = Err (fault layer place refusal)
+
+-- the one, and where there is none the other
+abbrev pub or_else : {A : Type 0} → Option A → Option A → Option A
+or_else (Some a) o = Some a
+or_else None o = o

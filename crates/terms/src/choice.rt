@@ -5,14 +5,14 @@ ghost use Rattle.terms.specs.Choices.{NamesClassKind, NamesSide, class_kind_byte
 use crate::unknown::NoSuchNumber;
 use std::fmt;
 
-// What the risk of a class is measured by.
+/// What the risk of a class is measured by.
 #[derive(Clone, Copy, PartialEq, Eq, Debug)]
 pub enum ClassKind {
     Liquidity = 1,
     Duration = 2,
 }
 
-// The side of a trade.
+/// The side of a trade.
 #[derive(Clone, Copy, PartialEq, Eq, Debug)]
 pub enum Side {
     Bought = 1,
@@ -87,7 +87,7 @@ impl TryFrom<u8> for Side {
 }
 
 impl Side {
-    // A quantity on this side: bought ones are positive, sold ones negative.
+    /// A quantity on this side: bought ones are positive, sold ones negative.
     pub fn signed(self, quantity: u32) -> i64
         ensures { result ≡ signed self quantity }
     {

@@ -5,7 +5,7 @@ ghost use Rattle.terms.specs.Numbers.{NamesLayer, layer_number, layer_words};
 use crate::unknown::NoSuchNumber;
 use std::fmt;
 
-// A case for each part that puts questions to a call.
+/// A case for each part that puts questions to a call.
 #[derive(Clone, Copy, PartialEq, Eq, Debug)]
 pub enum Layer {
     Frame = 1,

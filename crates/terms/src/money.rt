@@ -1,8 +1,8 @@
 // Amounts of money. Each kind is a type of its own: only a currency rate turns an amount in quotation currency into zloty units,
 // only a percentage zloty units into grosz, and an amount is added to its own kind alone.
-ghost use Rattle.std.specs.Prelude.{◌≡◌, ◌+◌, ◌-◌, ◌*◌, ◌/◌, ◌^◌, ◌<◌, ◌≤◌, min};
+ghost use Rattle.std.specs.Prelude.{◌≡◌, ◌+◌, ◌-◌, ◌*◌, ◌/◌, ◌^◌, ◌<◌, ◌≤◌, min, pos, ◌-ℤ◌};
 ghost use Rattle.terms.specs.Limits.{whole};
-ghost use Rattle.terms.specs.Money.{nearest, at_price_lem, percentage, credited, valuation};
+ghost use Rattle.terms.specs.Money.{Sums, at_price_lem, credited, largest, largest_signed, nearest, percentage, valuation};
 
 use crate::limits::{AMOUNT_LIMIT, DURATION_ONE, WHOLE};
 use std::ops::{Add, AddAssign, Sub};
@@ -16,20 +16,26 @@ const GROSZ_UNITS: u128 = 100;
 // The whole of a percentage that is counted in grosz.
 const WHOLE_IN_GROSZ: u128 = WHOLE as u128 * GROSZ_UNITS;
 
-// An amount in 10^-4 of a quotation currency.
+/// An amount in 10^-4 of a quotation currency.
 #[derive(Clone, Copy)]
 pub struct Quotation {
     units: u128,
     ghost small: { units < 2 ^ 96 },
 }
 
-// An amount in zloty units, 10^-4 zloty each.
+/// An amount in zloty units, 10^-4 zloty each.
 #[derive(Clone, Copy, PartialEq, Eq, Debug)]
 pub struct Zloty {
     units: u64,
 }
 
-// An amount in grosz.
+/// What is bought above what is sold, in zloty units: more bought above 0, more sold below.
+#[derive(Clone, Copy, PartialEq, Eq, Debug)]
+pub struct SignedZloty {
+    net: i64,
+}
+
+/// An amount in grosz.
 #[derive(Clone, Copy, PartialEq, Eq, Debug)]
 pub struct Grosz {
     grosz: u64,
@@ -71,13 +77,20 @@ fn credit_of(percent: u32, units: u64) -> u128
 
 // The number, or the largest of 64 bits.
 fn capped(n: u128) -> u64
-    ensures { result ≡ min n (2 ^ 64 - 1) }
+    ensures { result ≡ min n largest }
 {
     n.min(u64::MAX as u128) as u64
 }
 
+// So many units as a signed number, up to the largest.
+fn signed(units: u64) -> i64
+    ensures { result ≡ pos (min units largest_signed) }
+{
+    units.min(i64::MAX as u64) as i64
+}
+
 impl Quotation {
-    // So many units at a price.
+    /// So many units at a price.
     #[tactic(auto, using(crate::proofs::Products::product_96))]
     pub fn at_price(quantity: u64, price: u32) -> Quotation
         ensures { result.units ≡ at_price_lem quantity price }
@@ -87,7 +100,7 @@ impl Quotation {
         }
     }
 
-    // The amounts A and V of a position at a currency rate and a duration, if A is at most the limit of a position.
+    /// The amounts A and V of a position at a currency rate and a duration, if A is at most the limit of a position.
     // Kept: a rule of the project: A and V stand in a pair.
     #[tactic(auto, using(crate::proofs::Products::product_128))]
     pub fn valued(self, rate: u32, duration: u32) -> Option<(Zloty, Zloty)>
@@ -112,26 +125,26 @@ impl Quotation {
 impl Zloty {
     pub const ZERO: Zloty = Zloty { units: 0 };
 
-    // An amount of so many zloty units.
+    /// An amount of so many zloty units.
     pub fn new(units: u64) -> Zloty
         ensures { result ≡ record { units = units } }
     {
         Zloty { units }
     }
 
-    // How many zloty units it is.
+    /// How many zloty units it is.
     pub fn units(self) -> u64
         ensures { result ≡ self.units }
     {
         self.units
     }
 
-    // A percentage of the amount, to nearest; at most the largest amount, which no percentage up to the whole passes.
+    /// A percentage of the amount, to nearest; at most the largest amount, which no percentage up to the whole passes.
     // Kept: a percentage and a credit differ in their rounding alone; a trait with a law and two impls is no plainer than two
     // bodies of a line.
     #[tactic(auto, using(crate::proofs::Products::part_fits))]
     pub fn percentage(self, percent: u32) -> Grosz
-        ensures grosz { result.grosz ≡ min (percentage percent self.units) (2 ^ 64 - 1) }
+        ensures grosz { result.grosz ≡ min (percentage percent self.units) largest }
         ensures lawful { percent ≤ whole → result.grosz ≡ percentage percent self.units }
     {
         Grosz {
@@ -139,10 +152,10 @@ impl Zloty {
         }
     }
 
-    // The credit of a percentage of the amount, rounded down; at most the largest amount, which no percentage up to the whole passes.
+    /// The credit of a percentage of the amount, rounded down; at most the largest amount, which no percentage up to the whole passes.
     #[tactic(auto, using(crate::proofs::Products::credit_fits))]
     pub fn credit(self, percent: u32) -> Grosz
-        ensures grosz { result.grosz ≡ min (credited percent self.units) (2 ^ 64 - 1) }
+        ensures grosz { result.grosz ≡ min (credited percent self.units) largest }
         ensures lawful { percent ≤ whole → result.grosz ≡ credited percent self.units }
     {
         Grosz {
@@ -151,10 +164,38 @@ impl Zloty {
     }
 }
 
+impl SignedZloty {
+    pub const ZERO: SignedZloty = SignedZloty { net: 0 };
+
+    /// An amount of so many zloty units.
+    pub fn new(units: i64) -> SignedZloty
+        ensures { result ≡ record { net = units } }
+    {
+        SignedZloty { net: units }
+    }
+
+    /// What is bought above what is sold; each counts up to the largest signed amount.
+    pub fn net(bought: Zloty, sold: Zloty) -> SignedZloty
+        ensures net { result.net ≡ pos (min bought.units largest_signed) -ℤ pos (min sold.units largest_signed) }
+        ensures exact { bought.units ≤ largest_signed → sold.units ≤ largest_signed → result.net ≡ pos bought.units -ℤ pos sold.units }
+    {
+        SignedZloty {
+            net: signed(bought.units) - signed(sold.units),
+        }
+    }
+
+    /// How many zloty units it is.
+    pub fn units(self) -> i64
+        ensures { result ≡ self.net }
+    {
+        self.net
+    }
+}
+
 impl Grosz {
     pub const ZERO: Grosz = Grosz { grosz: 0 };
 
-    // How many grosz it is.
+    /// How many grosz it is.
     pub fn grosz(self) -> u64
         ensures { result ≡ self.grosz }
     {
@@ -163,25 +204,21 @@ impl Grosz {
 }
 
 // Kept: a rule of the project: each kind of amount is a struct of its own around an integer, so Zloty and Grosz each have
-// their own Add and AddAssign, and no sum mixes the two.
+// their own Add and AddAssign, and no sum mixes the two. A sum is capped at the largest amount, so that no call has a condition.
 impl Add<Zloty> for Zloty {
     type Output = Zloty;
 
-    ghost can_add = { λ a b. a.units + b.units < 2 ^ 64 };
-
-    ghost add_gives = { λ a b r. r ≡ record { units = a.units + b.units } };
+    ghost add_gives = { λ a b sum. Sums a.units b.units sum.units };
 
     fn add(self, rhs: Zloty) -> Zloty {
         Zloty {
-            units: self.units + rhs.units,
+            units: self.units.saturating_add(rhs.units),
         }
     }
 }
 
 impl AddAssign<Zloty> for Zloty {
-    ghost can_add_assign = { λ a b. a.units + b.units < 2 ^ 64 };
-
-    ghost add_assign_gives = { λ a b r. r ≡ record { units = a.units + b.units } };
+    ghost add_assign_gives = { λ a b sum. Sums a.units b.units sum.units };
 
     fn add_assign(&mut self, zloty: Zloty) {
         *self = *self + zloty;
@@ -191,21 +228,17 @@ impl AddAssign<Zloty> for Zloty {
 impl Add<Grosz> for Grosz {
     type Output = Grosz;
 
-    ghost can_add = { λ a b. a.grosz + b.grosz < 2 ^ 64 };
-
-    ghost add_gives = { λ a b r. r ≡ record { grosz = a.grosz + b.grosz } };
+    ghost add_gives = { λ a b sum. Sums a.grosz b.grosz sum.grosz };
 
     fn add(self, rhs: Grosz) -> Grosz {
         Grosz {
-            grosz: self.grosz + rhs.grosz,
+            grosz: self.grosz.saturating_add(rhs.grosz),
         }
     }
 }
 
 impl AddAssign<Grosz> for Grosz {
-    ghost can_add_assign = { λ a b. a.grosz + b.grosz < 2 ^ 64 };
-
-    ghost add_assign_gives = { λ a b r. r ≡ record { grosz = a.grosz + b.grosz } };
+    ghost add_assign_gives = { λ a b sum. Sums a.grosz b.grosz sum.grosz };
 
     fn add_assign(&mut self, grosz: Grosz) {
         *self = *self + grosz;
@@ -215,13 +248,12 @@ impl AddAssign<Grosz> for Grosz {
 impl Sub<Grosz> for Grosz {
     type Output = Grosz;
 
-    ghost can_sub = { λ a b. b.grosz ≤ a.grosz };
-
-    ghost sub_gives = { λ a b r. r ≡ record { grosz = a.grosz - b.grosz } };
+    // what is left of an amount, nothing where more is taken than there is
+    ghost sub_gives = { λ a b rest. rest ≡ record { grosz = a.grosz - b.grosz } };
 
     fn sub(self, rhs: Grosz) -> Grosz {
         Grosz {
-            grosz: self.grosz - rhs.grosz,
+            grosz: self.grosz.saturating_sub(rhs.grosz),
         }
     }
 }

@@ -1,69 +1,112 @@
 // Why a call is refused.
-ghost use Rattle.std.specs.Prelude.{◌≡◌};
-ghost use Rattle.terms.specs.Numbers.{NamesRefusal, refusal_number};
+ghost use Rattle.std.specs.Prelude.{◌≡◌, Some};
+ghost use Rattle.terms.specs.Refusals.{NamesRefusal, has_place, layer_of, meaning, refusal_number, refusal_words};
 
+use crate::layer::Layer;
 use crate::unknown::NoSuchNumber;
-use thiserror::Error;
+use std::error::Error;
+use std::fmt;
 
-// A case for each refusal; its number is the one that faults tell.
-#[derive(Clone, Copy, PartialEq, Eq, Debug, Error)]
+/// A case for each refusal; its number is the one that faults tell.
+#[derive(Clone, Copy, PartialEq, Eq, Debug)]
 pub enum Refusal {
-    #[error("there is no such security")]
     UnknownSecurity = 1,
-    #[error("the quantity is zero or beyond 200,000,000")]
     QuantityOutOfRange = 2,
-    #[error("no booking is left")]
     NoBookingLeft = 3,
-    #[error("the net would pass 100,000,000")]
     NetOutOfRange = 4,
-    #[error("too few bookings are left below")]
     TooFewBookingsBelow = 5,
-    #[error("the list has no such place")]
     NoSuchPlace = 6,
-    #[error("there is no such class")]
     UnknownClass = 10,
-    #[error("the class has a row already")]
     RepeatedClass = 11,
-    #[error("a figure of the class is not lawful")]
     UnlawfulClass = 12,
-    #[error("there is no such security, or it has a row already")]
     UnknownOrRepeatedSecurity = 13,
-    #[error("its class has no row")]
     ClassWithoutRow = 14,
-    #[error("a figure of the security is not lawful")]
     UnlawfulSecurity = 15,
-    #[error("the two classes have no rows, are one or differ in kind")]
     UnlawfulPair = 16,
-    #[error("the credit rate is above the y of a class")]
     CreditAboveRate = 17,
-    #[error("the sheet has all its pairs")]
     TooManyPairs = 18,
-    #[error("too few places for classes or matches")]
     TooFewPlaces = 20,
-    #[error("a held security has no row")]
     SecurityWithoutRow = 21,
-    #[error("the amount of a position is too large")]
     AmountTooLarge = 22,
-    #[error("there is no such class to surcharge")]
     UnknownSurchargeClass = 25,
-    #[error("an addition is above the whole")]
     AdditionOutOfRange = 26,
-    #[error("the line is not an even number of hexadecimal digits")]
     NotHexadecimal = 30,
-    #[error("the kind of frame is not known")]
     UnknownKind = 31,
-    #[error("the frame is too short or too long")]
     WrongLength = 32,
-    #[error("the side or the kind of class is neither 01 nor 02")]
     UnknownChoice = 33,
-    #[error("the memory does not hold the line")]
     LineMemoryTooShort = 34,
-    #[error("no such line may stand here")]
     LineOutOfOrder = 35,
-    #[error("the memory for the answer is too short")]
     AnswerMemoryTooShort = 36,
-    #[error("the text is longer than 65,536 bytes")]
     TextTooLong = 37,
+}
+
+impl fmt::Display for Refusal {
+    ghost output = { λ refusal. Some (refusal_words refusal) };
+
+    #[tactic(auto, unfolding(crate::specs::Refusals::refusal_words))]
+    fn fmt<W: fmt::Write>(&self, f: &mut fmt::Formatter<W>) -> fmt::Result {
+        f.write_str(match self {
+            Refusal::UnknownSecurity => "there is no such security",
+            Refusal::QuantityOutOfRange => "the quantity is zero or beyond 200,000,000",
+            Refusal::NoBookingLeft => "no booking is left",
+            Refusal::NetOutOfRange => "the net would pass 100,000,000",
+            Refusal::TooFewBookingsBelow => "too few bookings are left below",
+            Refusal::NoSuchPlace => "the list has no such place",
+            Refusal::UnknownClass => "there is no such class",
+            Refusal::RepeatedClass => "the class has a row already",
+            Refusal::UnlawfulClass => "a figure of the class is not lawful",
+            Refusal::UnknownOrRepeatedSecurity =>
+                "there is no such security, or it has a row already",
+            Refusal::ClassWithoutRow => "its class has no row",
+            Refusal::UnlawfulSecurity => "a figure of the security is not lawful",
+            Refusal::UnlawfulPair => "the two classes have no rows, are one or differ in kind",
+            Refusal::CreditAboveRate => "the credit rate is above the y of a class",
+            Refusal::TooManyPairs => "the sheet has all its pairs",
+            Refusal::TooFewPlaces => "too few places for classes or matches",
+            Refusal::SecurityWithoutRow => "a held security has no row",
+            Refusal::AmountTooLarge => "the amount of a position is too large",
+            Refusal::UnknownSurchargeClass => "there is no such class to surcharge",
+            Refusal::AdditionOutOfRange => "an addition is above the whole",
+            Refusal::NotHexadecimal => "the line is not an even number of hexadecimal digits",
+            Refusal::UnknownKind => "the kind of frame is not known",
+            Refusal::WrongLength => "the frame is too short or too long",
+            Refusal::UnknownChoice => "the side or the kind of class is neither 01 nor 02",
+            Refusal::LineMemoryTooShort => "the memory does not hold the line",
+            Refusal::LineOutOfOrder => "no such line may stand here",
+            Refusal::AnswerMemoryTooShort => "the memory for the answer is too short",
+            Refusal::TextTooLong => "the text is longer than 65,536 bytes",
+        })
+    }
+}
+
+impl Error for Refusal {}
+
+impl Refusal {
+    /// The layer that refuses so, where it is always the same one.
+    pub fn layer(self) -> Option<Layer>
+        ensures { result ≡ layer_of self }
+    {
+        Some(match u8::from(self) {
+            1..=4 => return None,
+            5 => Layer::Trial,
+            6 => Layer::List,
+            7..=19 => Layer::Sheet,
+            20..=24 => Layer::Deposit,
+            25..=29 => Layer::Surcharge,
+            30..=34 => Layer::Frame,
+            _ => Layer::WholeText,
+        })
+    }
+
+    /// Whether its fault tells the place of a call.
+    pub fn has_place(self) -> bool
+        ensures { result ≡ has_place (meaning self).place }
+    {
+        match u8::from(self) {
+            5 | 6 | 20 => false,
+            number => number < 30,
+        }
+    }
 }
 
 impl From<Refusal> for u8 {

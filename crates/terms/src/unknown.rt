@@ -1,7 +1,21 @@
 // A number that nothing has.
-use thiserror::Error;
+ghost use Rattle.std.specs.Prelude.{Some};
+ghost use Rattle.terms.specs.Faults.{unknown_words};
 
-// No case of the enum that was asked for has this number.
-#[derive(Clone, Copy, PartialEq, Eq, Debug, Error)]
-#[error("nothing has the number {0}")]
+use std::error::Error;
+use std::fmt;
+
+/// No case of the enum that was asked for has this number.
+#[derive(Clone, Copy, PartialEq, Eq, Debug)]
 pub struct NoSuchNumber(pub u8);
+
+impl fmt::Display for NoSuchNumber {
+    ghost output = { λ unknown. Some (unknown_words unknown) };
+
+    fn fmt<W: fmt::Write>(&self, f: &mut fmt::Formatter<W>) -> fmt::Result {
+        let number = self.0;
+        write!(f, "nothing has the number {number}")
+    }
+}
+
+impl Error for NoSuchNumber {}

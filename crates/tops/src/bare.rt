@@ -1,7 +1,8 @@
 // A book with no trial layer above it.
-ghost use Rattle.std.specs.Prelude.{◌≡◌, false, is_ok};
-ghost use Rattle.tops.specs.Tallies.{bare_rules, bare_tally, decide, fed};
-ghost use Rattle.std.proofs.Common.{rules};
+ghost use Rattle.std.specs.Prelude.{◌≡◌, refl, false, is_ok};
+ghost use Rattle.tops.specs.Shown.{bare_shown};
+ghost use Rattle.tops.specs.Tallies.{bare_rules, bare_tally, decide, fed, posted};
+ghost use Rattle.trials.specs.Trials.{Taken};
 
 use crate::call::Call;
 use crate::top::Top;
@@ -9,15 +10,16 @@ use books::book::{Book, Positions};
 use books::booking::Booking;
 use std::convert::Infallible;
 use terms::fault::Fault;
+use terms::limits::SECURITIES;
 
-// The book itself.
+/// The book itself.
 #[derive(Drop)]
 pub struct Bare<B: Book> {
     book: B,
 }
 
 impl<B: Book> Bare<B> {
-    // The book as it is.
+    /// The book as it is.
     pub fn open(book: B) -> Self
         ensures { result.book ≡ book }
     {
@@ -26,8 +28,9 @@ impl<B: Book> Bare<B> {
 
     // A booking, by the tally.
     fn take(&mut self, booking: Booking) -> Result<(), Fault>
-        ensures answer { result ≡ decide (bare_rules B.Positions.layer) (bare_tally (B.Positions.nets self.old.book) (B.Book.left self.old.book)) (Call.Book booking) }
-        ensures tally { bare_tally (B.Positions.nets self.new.book) (B.Book.left self.new.book) ≡ fed (bare_rules B.Positions.layer) (bare_tally (B.Positions.nets self.old.book) (B.Book.left self.old.book)) (Call.Book booking) (is_ok result) }
+        ensures answer { result ≡ decide (bare_rules B.Book.meaning.layer) (bare_tally (B.Book.meaning.account self.old.book)) (Call.Book booking) }
+        ensures tally { bare_tally (B.Book.meaning.account self.new.book) ≡ fed (bare_rules B.Book.meaning.layer) (bare_tally (B.Book.meaning.account self.old.book)) (Call.Book booking) (is_ok result) }
+        ensures posted { Taken B.Book.meaning self.old.book (posted (bare_rules B.Book.meaning.layer) (bare_tally (B.Book.meaning.account self.old.book)) (Call.Book booking) (is_ok result)) self.new.book }
         ensures refused { is_ok result ≡ false → self.new ≡ self.old }
     {
         self.book(booking)
@@ -46,12 +49,18 @@ impl<B: Book> Positions for Bare<B> {
     fn net(&self, security: u16) -> Result<i64, Fault> {
         self.book.net(security)
     }
+
+    fn all_nets(&self) -> [i64; SECURITIES] {
+        self.book.all_nets()
+    }
 }
 
 impl<B: Book> Book for Bare<B> {
-    ghost left = { λ b. B.Book.left b.book };
+    ghost meaning = { record { account = λ b. B.Book.meaning.account b.book; posts = λ b k c. B.Book.meaning.posts b.book k c.book; layer = B.Book.meaning.layer } };
 
-    ghost posts = { λ b s q c. B.Book.posts b.book s q c.book };
+    ghost netted = { λ b. B.Book.netted b.book };
+
+    ghost named = { B.Book.named };
 
     fn bookings_left(&self) -> u32 {
         self.book.bookings_left()
@@ -68,16 +77,23 @@ impl<B: Book> Top for Bare<B> {
     // There are no other calls.
     type Own = Infallible;
 
-    ghost tally = { λ b. bare_tally (B.Positions.nets b.book) (B.Book.left b.book) };
+    ghost tally = { λ b. bare_tally (B.Book.meaning.account b.book) };
 
-    ghost rules = { bare_rules B.Positions.layer };
+    ghost rules = { bare_rules B.Book.meaning.layer };
 
-    ghost shown = { Prim.search rules };
+    ghost beneath = { λ b. b.book };
 
-    ghost named = { Prim.search rules };
+    ghost shown = { λ b. bare_shown (B.Book.meaning.account b.book) };
+
+    ghost named = { refl };
 
     fn open(below: B) -> Self {
         Bare::open(below)
+    }
+
+    fn close(self) -> B {
+        let Bare { book } = self;
+        book
     }
 
     fn call(&mut self, call: &Call<Infallible>) -> Result<(), Fault> {

@@ -1,7 +1,8 @@
 // The calls made at a trial layer.
 ghost use Rattle.tops.specs.Tallies.{trial_rules, trial_tally};
-ghost use Rattle.trials.specs.Trials.{trial_left, trial_nets};
-ghost use Rattle.std.proofs.Common.{rules};
+ghost use Rattle.tops.specs.Shown.{trial_shown};
+ghost use Rattle.trials.specs.Trials.{trial_account};
+ghost use Rattle.std.specs.Prelude.{refl};
 
 use crate::call::{Call, TrialCall};
 use crate::top::Top;
@@ -14,18 +15,25 @@ impl<B: Book> Top for Trial<B> {
 
     type Own = TrialCall;
 
-    ghost tally = { λ t. trial_tally (trial_nets t) (trial_left t) (B.Positions.nets t.below) (B.Book.left t.below) };
+    ghost tally = { λ t. trial_tally (trial_account t) (B.Book.meaning.account t.below) };
 
     ghost rules = { trial_rules };
 
-    ghost shown = { Prim.search rules };
+    ghost beneath = { λ t. t.below };
 
-    ghost named = { Prim.search rules };
+    ghost shown = { λ t. trial_shown (trial_account t) (B.Book.meaning.account t.below) };
+
+    ghost named = { refl };
 
     fn open(below: B) -> Self {
         Trial::open(below)
     }
 
+    fn close(self) -> B {
+        self.into_below()
+    }
+
+    #[tactic(auto, using(crate::proofs::Calls::booking_decided, crate::proofs::Calls::commit_noted, crate::proofs::Calls::commit_posted))]
     fn call(&mut self, call: &Call<TrialCall>) -> Result<(), Fault> {
         // Kept: no plainer: a call is data that scripts write down and the tally judges; a closure could not be compared.
         match call {

@@ -1,10 +1,9 @@
 -- Counts over the securities, and quantities that are 0.
-use Rattle.std.proofs.Common.{◌≡◌, ℕ, zero, suc, ◌+◌, ◌≤◌, Bool, true, false, cond, [], ◌∷◌, ◌++◌, length, ℤ, pos, ◌-ℤ◌, nat_abs, sym, refl, ap, ◌∙◌, subst, ⊎_elim, add-one, arith, length-append, w64, SFits, to_z, of_z}
+use Rattle.std.proofs.Common.{◌≡◌, ℕ, zero, suc, ◌+◌, ◌<◌, ◌≤◌, Bool, true, false, cond, List, length, get_or, take, ℤ, pos, ◌-ℤ◌, nat_abs, sym, ap, ap₂, ◌∙◌, subst, ⊎_elim, add-one, arith, take_all, w64, SFits, to_z, of_z, refl}
+use Rattle.std.specs.Prelude.{count_by}
 use Rattle.std.proofs.lemmas.Int.{ints, to_z-of_z}
 use Rattle.std.proofs.lemmas.Bool.{cases_lt, cases_Bool, eqb-true}
-use Rattle.std.proofs.lemmas.List.{map-id}
-use Rattle.std.proofs.lemmas.List.FromFn.{filter_of_map_range_with_len_more}
-use Rattle.std.specs.List.{filter, range_with_len}
+use Rattle.std.proofs.lemmas.List.Sums.{sum_by_more}
 use Rattle.books.specs.Books.{is_zero}
 use Rattle.trials.specs.Trials.{count}
 
@@ -53,19 +52,19 @@ zero_bits z f e = ap is_zero (sym (to_z-of_z w64 z f) ∙ ap (to_z w64) e)
 pub nonzero_bits : (z : ℤ) → (of_z w64 z ≡ 0 → ⊥) → is_zero z ≡ false
 nonzero_bits z ne = ⊎_elim (λ t. absurd (ne (ap (of_z w64) (zero_is z t)))) (λ f. f) (cases_Bool (is_zero z))
 
-one_long : (b : Bool) (n : ℕ) → length (cond b (n ∷ []) []) ≡ cond b 1 0
-one_long true n = refl
-one_long false n = refl
+-- the same numbers, the same count
+pub count_agrees : (f g : ℕ → Bool) (n : ℕ) → ((s : ℕ) → s < n → f s ≡ g s) → count f n ≡ count g n
+count_agrees f g zero h = count_none f ∙ sym (count_none g)
+count_agrees f g (suc n) h =
+    count_suc f n ∙ ap₂ (λ (k : ℕ) (b : Bool). k + cond {A = ℕ} b 1 0) (count_agrees f g n (λ s l. h s (omega arith))) (h n (omega arith)) ∙ sym (count_suc g n)
 
-filter_next : (test : ℕ → Bool) (n : ℕ) → filter test (range_with_len 0 (n + 1)) ≡ filter test (range_with_len 0 n) ++ cond (test n) (n ∷ []) []
-filter_next test n =
-    ap (filter test) (sym (map-id (range_with_len 0 (n + 1)))) ∙ filter_of_map_range_with_len_more test (λ x. x) 0 n n (omega arith)
-    ∙ ap (λ xs. filter test xs ++ cond (test n) (n ∷ []) []) (map-id (range_with_len 0 n))
+-- a count over a list, by its places
+counted_to : (p : ℤ → Bool) (xs : List ℤ) (n : ℕ) → n ≤ length xs → count_by p (take n xs) ≡ count (λ s. p (get_or xs s (pos 0))) n
+counted_to p xs zero l = sym (count_none (λ s. p (get_or xs s (pos 0))))
+counted_to p xs (suc n) l =
+    subst (λ (k : ℕ). count_by p (take k xs) ≡ count (λ s. p (get_or xs s (pos 0))) k) (add-one n)
+    (sum_by_more (λ x. cond (p x) 1 0) xs n (pos 0) (omega arith) ∙ ap (λ (k : ℕ). k + cond (p (get_or xs n (pos 0))) 1 0) (counted_to p xs n (omega arith))
+    ∙ sym (count_next (λ s. p (get_or xs s (pos 0))) n))
 
--- the securities that pass the test are as many as are counted
-pub count_filtered : (test : ℕ → Bool) (n : ℕ) → length (filter test (range_with_len 0 n)) ≡ count test n
-count_filtered test zero = sym (count_none test)
-count_filtered test (suc n) =
-    ap (λ k. length (filter test (range_with_len 0 k))) (sym (add-one n)) ∙ ap length (filter_next test n)
-    ∙ length-append (filter test (range_with_len 0 n)) (cond (test n) (n ∷ []) [])
-    ∙ (λ i. count_filtered test n i + one_long (test n) n i) ∙ sym (count_suc test n)
+pub counted : (p : ℤ → Bool) (xs : List ℤ) (n : ℕ) → length xs ≡ n → count_by p xs ≡ count (λ s. p (get_or xs s (pos 0))) n
+counted p xs n e = ap (count_by p) (sym (take_all n xs (omega arith))) ∙ counted_to p xs n (omega arith)

@@ -1,11 +1,11 @@
--- What a trial layer means: the nets of the book below, and its own, which are those and its trial quantities. Assumes nothing.
-use Rattle.std.specs.Prelude.{◌≡◌, ℕ, zero, suc, ◌+◌, Bool, true, false, cond, not, List, [], ◌∷◌, ◌++◌, ℤ, ◌-ℤ◌, is_ok, None, Ok, nat_le}
-use Rattle.books.specs.Books.{Answer, Books, is_zero}
-use Rattle.books.specs.Ledgers.{ledger_left, ledger_nets}
+-- What a trial layer means: what is held below, and what it holds itself, which is that and what is on trial. Assumes nothing.
+use Rattle.std.specs.Prelude.{◌≡◌, ℕ, zero, suc, ◌+◌, Bool, true, false, cond, not, List, [], ◌∷◌, ◌++◌, ℤ, is_ok, None, Ok, nat_le}
+use Rattle.books.specs.Books.{Account, Answer, Books, Holding, Meaning, booking_of, is_nothing, minus}
+use Rattle.books.specs.Ledgers.{ledger_account, ledger_nets}
 use Rattle.books.specs.declared.booking.Booking.{Booking}
 use Rattle.terms.specs.Limits.{security_count, trial_limit}
-use Rattle.terms.specs.Questions.{ask, answer}
-use Rattle.terms.specs.declared.layer.Layer.{Layer}
+use Rattle.terms.specs.Questions.{ask}
+use Rattle.terms.specs.Refusals.{answer_at}
 use Rattle.terms.specs.declared.layer.Layer.TheVariants as layers
 use Rattle.terms.specs.declared.refusal.Refusal.TheVariants.{TooFewBookingsBelow}
 use Rattle.trials.specs.declared.trial.Trial.{Trial}
@@ -14,59 +14,65 @@ use Rattle.trials.specs.declared.trial.Trial.{Trial}
 abbrev pub trial_nets : {B : Type 0} → Trial B → ℕ → ℤ
 trial_nets t = ledger_nets t.above
 
--- how many bookings the layer has left
-abbrev pub trial_left : {B : Type 0} → Trial B → ℕ
-trial_left t = ledger_left t.above
+-- what the layer holds of each security, and how many bookings it has left
+abbrev pub trial_account : {B : Type 0} → Trial B → Account
+trial_account t = ledger_account t.above
 
--- a booking on the layer leaves the book below as it is
-abbrev pub same_below : {B : Type 0} → Trial B → ℕ → ℤ → Trial B → Type 0
-same_below before security quantity after = after.below ≡ before.below
+-- what a trial layer means: a booking on it leaves the book below as it is
+abbrev pub trial_meaning : {B : Type 0} → Meaning (Trial B)
+trial_meaning = record { account = trial_account; posts = λ before booking after. after.below ≡ before.below; layer = layers.Trial }
 
--- the trial quantity of each security, by the nets of the layer and those below it
-abbrev pub trial_quantities : (ℕ → ℤ) → (ℕ → ℤ) → ℕ → ℤ
-trial_quantities above below s = above s -ℤ below s
+-- what is on trial of each security, by what is held at the layer and below it
+abbrev pub on_trial : Account → Account → ℕ → Holding
+on_trial above below s = minus (above.holdings s) (below.holdings s)
 
--- whether the quantity of a security is other than 0
-abbrev pub moves : (ℕ → ℤ) → ℕ → Bool
-moves quantities s = not (is_zero (quantities s))
+-- whether anything is on trial of a security
+abbrev pub moves : (ℕ → Holding) → ℕ → Bool
+moves trial s = not (is_nothing (trial s))
 
 -- how many of the first n securities pass the test
 unfoldable pub count : (ℕ → Bool) → ℕ → ℕ
 count test zero = 0
 count test (suc n) = count test n + cond (test n) 1 0
 
--- how many of the quantities are other than 0
-abbrev pub nonzero : (ℕ → ℤ) → ℕ
-nonzero quantities = count (moves quantities) security_count
+-- of how many securities something is on trial
+abbrev pub nonzero : (ℕ → Holding) → ℕ
+nonzero trial = count (moves trial) security_count
 
 -- the question put to a commit
-abbrev pub commit_answer : (ℕ → ℤ) → ℕ → Answer
-commit_answer trial left_below = answer layers.Trial 0 tt (ask (nat_le (nonzero trial) left_below) TooFewBookingsBelow None)
+abbrev pub commit_answer : (ℕ → Holding) → ℕ → Answer
+commit_answer trial left_below = answer_at 0 tt (ask (nat_le (nonzero trial) left_below) TooFewBookingsBelow None)
 
--- a booking for each quantity other than 0 of the first n securities, by rising security
-unfoldable pub postings : (ℕ → ℤ) → ℕ → List Booking
-postings quantities zero = []
-postings quantities (suc n) =
-    postings quantities n ++ cond (moves quantities n) (record { security = n; quantity = quantities n } ∷ []) []
+-- the booking of what is on trial of a security, if anything is
+abbrev pub posting : (ℕ → Holding) → ℕ → List Booking
+posting trial s = cond (moves trial s) (booking_of s (trial s) ∷ []) []
 
-module _ {B : Type 0} (nets : B → ℕ → ℤ) (left : B → ℕ) (posts : B → ℕ → ℤ → B → Type 0) (layer : Layer) where
+-- those of the first n securities, by rising security
+unfoldable pub postings : (ℕ → Holding) → ℕ → List Booking
+postings trial zero = []
+postings trial (suc n) = postings trial n ++ posting trial n
+
+module _ {B : Type 0} (book : Meaning B) where
   -- a book takes these bookings, one after another, none refused
   abbrev pub Taken : B → List Booking → B → Type 0
   Taken before [] after = after ≡ before
-  Taken before (b ∷ bs) after =
-      (next : B) × (Books nets left posts layer before b.security b.quantity (Ok tt) next × Taken next bs after)
+  Taken before (b ∷ bs) after = (next : B) × (Books book before b (Ok tt) next × Taken next bs after)
 
-  -- What a commit does, above a book with the meaning `nets`, `left` and `posts`, whose faults carry `layer`.
+  -- what is on trial at a layer above a book
+  abbrev pub laid : Trial B → ℕ → Holding
+  laid t = on_trial (trial_account t) (book.account t.below)
+
+  -- What a commit does, above a book with this meaning.
   pub record Commits (before : Trial B) (result : Answer) (after : Trial B) : Type 0 where
-    pub decided : result ≡ commit_answer (trial_quantities (trial_nets before) (nets before.below)) (left before.below)
+    pub decided : result ≡ commit_answer (laid before) (book.account before.below).left
     -- a refusal changes nothing
     pub refused : is_ok result ≡ false → after ≡ before
-    -- the layer's nets do not move, and those below come to them, so that every trial quantity is 0
-    pub still : is_ok result ≡ true → trial_nets after ≡ trial_nets before
-    pub posted : is_ok result ≡ true → nets after.below ≡ trial_nets before
-    -- one booking below is used for each trial quantity other than 0
-    pub spent : is_ok result ≡ true → left after.below + nonzero (trial_quantities (trial_nets before) (nets before.below)) ≡ left before.below
+    -- what the layer holds does not change, and what is held below comes to it, so that nothing is on trial
+    pub still : is_ok result ≡ true → (trial_account after).holdings ≡ (trial_account before).holdings
+    pub posted : is_ok result ≡ true → (book.account after.below).holdings ≡ (trial_account before).holdings
+    -- one booking below is used for each security of which something is on trial
+    pub spent : is_ok result ≡ true → (book.account after.below).left + nonzero (laid before) ≡ (book.account before.below).left
     -- they are posted by rising security, and nothing else happens below
-    pub taken : is_ok result ≡ true → Taken before.below (postings (trial_quantities (trial_nets before) (nets before.below)) security_count) after.below
+    pub taken : is_ok result ≡ true → Taken before.below (postings (laid before) security_count) after.below
     -- and the layer has all its bookings again
-    pub renewed : is_ok result ≡ true → trial_left after ≡ trial_limit
+    pub renewed : is_ok result ≡ true → (trial_account after).left ≡ trial_limit

@@ -4,7 +4,7 @@ use books::ledger::Ledger;
 
 mod methods;
 
-// The nets of the layer are kept whole: a trial quantity is what they have above those of the book below.
+/// The nets of the layer are kept whole: a trial quantity is what they have above those of the book below.
 #[derive(Drop)]
 pub struct Trial<B: Book> {
     below: B,

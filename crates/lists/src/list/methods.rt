@@ -2,8 +2,9 @@
 ghost use Rattle.std.specs.Prelude.{◌≡◌, ℕ, ◌+◌, ◌<◌, [], ◌∷◌, ◌++◌, length, take, slice_set};
 ghost use Rattle.lists.specs.Lists.{items, lender, memory, Appends, Cleared, Reads};
 
-use super::{List, NO_SUCH_PLACE};
+use super::List;
 use terms::fault::Fault;
+use terms::refusal::Refusal;
 
 // The first `len` places, as far as there are so many.
 fn filled<T>(places: &[T], len: usize) -> &[T]
@@ -22,7 +23,7 @@ fn put<T: Drop>(places: &mut [T], at: usize, x: T)
 }
 
 impl<'a, T> List<'a, T> {
-    // The empty list over `places`.
+    /// The empty list over `places`.
     pub fn over(places: &'a mut [T]) -> List<'a, T>
         ensures lender { lender result ≡ places.entry.ghost_name }
         ensures memory { memory result ≡ places.old }
@@ -31,28 +32,28 @@ impl<'a, T> List<'a, T> {
         List { places, len: 0 }
     }
 
-    // How many records there are.
+    /// How many records there are.
     pub fn count(&self) -> usize
         ensures { result ≡ length (items self.now) }
     {
         self.records().len()
     }
 
-    // The records, the oldest first.
+    /// The records, the oldest first.
     pub fn records(&self) -> &[T]
         ensures { result.now ≡ items self.now }
     {
         filled(self.places, self.len)
     }
 
-    // How many places there are, filled or free.
+    /// How many places there are, filled or free.
     pub fn room(&self) -> usize
         ensures { result ≡ length (memory self.now) }
     {
         self.places.len()
     }
 
-    // No record is left; the memory stays as it is.
+    /// No record is left; the memory stays as it is.
     pub fn clear(&mut self)
         ensures lender { lender self.new ≡ lender self.old }
         ensures cleared { Cleared self.old self.new }
@@ -62,7 +63,7 @@ impl<'a, T> List<'a, T> {
 }
 
 impl<'a, T: Drop> List<'a, T> {
-    // One record more, or a refusal where no place is free.
+    /// One record more, or a refusal where no place is free.
     pub fn append(&mut self, x: T) -> Result<(), Fault>
         ensures lender { lender self.new ≡ lender self.old }
         ensures cases { Appends x self.old self.new result }
@@ -70,7 +71,7 @@ impl<'a, T: Drop> List<'a, T> {
         // Kept: tried; after `get_mut` nothing is known of what the slice ends as, so that the place is asked for before it is written.
         let at = self.count();
         if at >= self.room() {
-            return Err(NO_SUCH_PLACE);
+            return Err(Refusal::NoSuchPlace.at(0));
         }
         put(self.places, at, x);
         self.len = at + 1;
@@ -79,10 +80,13 @@ impl<'a, T: Drop> List<'a, T> {
 }
 
 impl<'a, T: Copy> List<'a, T> {
-    // The record at `at`, or a refusal where that place is not filled.
+    /// The record at `at`, or a refusal where that place is not filled.
     pub fn read(&self, at: usize) -> Result<T, Fault>
         ensures { Reads (items self.now) at result }
     {
-        self.records().get(at).copied().ok_or(NO_SUCH_PLACE)
+        self.records()
+            .get(at)
+            .copied()
+            .ok_or(Refusal::NoSuchPlace.at(0))
     }
 }

@@ -1,21 +1,21 @@
 // The questions put to a row before it is taken.
 ghost use Rattle.sheets.specs.Drafts.{class_refusal, pair_refusal, security_refusal};
 ghost use Rattle.sheets.specs.Filled.{table_rows};
-ghost use Rattle.terms.specs.Questions.{answer};
-ghost use Rattle.terms.specs.declared.layer.Layer.TheVariants as layers;
+ghost use Rattle.terms.specs.Refusals.{refused_at};
 ghost use Rattle.std.specs.Prelude.{◌≡◌};
+ghost use Rattle.std.specs.Result.{result_err};
 
 use super::RowTable;
+use rules::laws::credit_ceiling;
 use rules::rows::{ClassRow, PairRow, SecurityRow};
 use terms::fault::Fault;
-use terms::layer::Layer;
 use terms::limits::{CLASSES, SECURITIES};
 use terms::refusal::Refusal;
 
 impl RowTable {
     // Whether a class may have this row.
     pub(crate) fn judge_class(&self, class: u16, row: ClassRow) -> Result<(), Fault>
-        ensures { result ≡ answer layers.Sheet class tt (class_refusal (table_rows self.now) class row) }
+        ensures { result_err result ≡ refused_at class (class_refusal (table_rows self.now) class row) }
     {
         let refusal = if class as usize >= CLASSES {
             Refusal::UnknownClass
@@ -26,12 +26,12 @@ impl RowTable {
         } else {
             return Ok(());
         };
-        Err(Layer::Sheet.fault(class, refusal))
+        Err(refusal.at(class))
     }
 
     // Whether a security may have this row.
     pub(crate) fn judge_security(&self, security: u16, row: SecurityRow) -> Result<(), Fault>
-        ensures { result ≡ answer layers.Sheet security tt (security_refusal (table_rows self.now) security row) }
+        ensures { result_err result ≡ refused_at security (security_refusal (table_rows self.now) security row) }
     {
         let refusal = if security as usize >= SECURITIES || self.security(security).is_some() {
             Refusal::UnknownOrRepeatedSecurity
@@ -42,16 +42,16 @@ impl RowTable {
                 Some(_) => Refusal::UnlawfulSecurity,
             }
         };
-        Err(Layer::Sheet.fault(security, refusal))
+        Err(refusal.at(security))
     }
 
     // Whether this pair may come last in the order.
     pub(crate) fn judge_pair(&self, pair: PairRow) -> Result<(), Fault>
-        ensures { result ≡ answer layers.Sheet pair.first tt (pair_refusal (table_rows self.now) pair) }
+        ensures { result_err result ≡ refused_at pair.first (pair_refusal (table_rows self.now) pair) }
     {
         let refusal = match (self.class(pair.first), self.class(pair.second)) {
             (Some(one), Some(other)) if pair.first != pair.second && one.kind == other.kind => {
-                if pair.crt > one.y || pair.crt > other.y {
+                if pair.crt > credit_ceiling(one.y, other.y) {
                     Refusal::CreditAboveRate
                 } else if self.pairs.is_full() {
                     Refusal::TooManyPairs
@@ -61,6 +61,6 @@ impl RowTable {
             }
             _ => Refusal::UnlawfulPair,
         };
-        Err(Layer::Sheet.fault(pair.first, refusal))
+        Err(refusal.at(pair.first))
     }
 }

@@ -7,7 +7,6 @@ use super::AdditionTable;
 use crate::setting::Setting;
 use rules::rows::Addition;
 use terms::fault::Fault;
-use terms::layer::Layer;
 use terms::limits::{CLASSES, WHOLE};
 use terms::refusal::Refusal;
 
@@ -26,7 +25,7 @@ fn judge(setting: Setting) -> Result<(), Fault>
     } else {
         return Ok(());
     };
-    Err(Layer::Surcharge.fault(setting.class, refusal))
+    Err(refusal.at(setting.class))
 }
 
 impl AdditionTable {

@@ -1,12 +1,12 @@
 // Opening, booking, committing and dropping.
-ghost use Rattle.std.specs.Prelude.{◌≡◌, ◌+◌, ◌≤◌};
+ghost use Rattle.std.specs.Prelude.{◌≡◌, refl, ℕ, ◌+◌, ◌<◌, ◌≤◌, pos, slice_index_or, true};
 ghost use Rattle.books.specs.Ledgers.{ledger_absent, ledger_limited};
 ghost use Rattle.terms.specs.Limits.{security_count, trial_limit};
 ghost use Rattle.terms.specs.declared.layer.Layer.TheVariants as layers;
-ghost use Rattle.trials.specs.Trials.{Commits, Taken, moves, nonzero, postings, same_below, trial_left, trial_nets, trial_quantities};
+ghost use Rattle.trials.specs.Trials.{Commits, Taken, laid, moves, nonzero, posting, postings, trial_account, trial_meaning, trial_nets};
 
 use super::Trial;
-use books::book::{Book, Positions, net_of};
+use books::book::{Book, Positions};
 use books::booking::Booking;
 use books::ledger::Ledger;
 use terms::fault::Fault;
@@ -14,82 +14,94 @@ use terms::layer::Layer;
 use terms::limits::{SECURITIES, TRIAL_BOOKINGS};
 use terms::refusal::Refusal;
 
-// The refusal of a commit: the book below has too few bookings left.
-const TOO_FEW_BOOKINGS_BELOW: Fault = Fault {
-    refusal: Refusal::TooFewBookingsBelow,
-    layer: Layer::Trial,
-    place: 0,
-};
-
 impl<B: Book> Trial<B> {
-    // Every trial quantity is 0, and 1,000 bookings are left.
+    /// Every trial quantity is 0, and 1,000 bookings are left.
     pub fn open(below: B) -> Self
         ensures below { result.below ≡ below }
-        ensures nets { trial_nets result ≡ B.Positions.nets below }
-        ensures left { trial_left result ≡ trial_limit }
+        ensures holdings { (trial_account result).holdings ≡ (B.Book.meaning.account below).holdings }
+        ensures left { (trial_account result).left ≡ trial_limit }
     {
         let above = Ledger::copy_of(&below, TRIAL_BOOKINGS as u32);
         Trial { below, above }
     }
 
-    // What the layer has above the book below.
-    fn trial_quantity(&self, security: u16) -> i64
-        ensures { result ≡ trial_quantities (trial_nets self.now) (B.Positions.nets self.now.below) security }
+    /// The book below, as it is.
+    pub fn into_below(self) -> B
+        ensures { result ≡ self.below }
     {
-        self.above.net_at(security) - net_of(&self.below, security)
+        let Trial { below, above: _ } = self;
+        below
     }
 
-    // Whether the layer has another net than the book below.
-    fn is_moved(&self, security: u16) -> bool
-        ensures { result ≡ moves (trial_quantities (trial_nets self.now) (B.Positions.nets self.now.below)) security }
+    // What the layer has above the book below, of each security.
+    fn quantities(&self) -> [i64; SECURITIES]
+        ensures { (s : ℕ) → s < security_count → slice_index_or result s (pos 0) ≡ (laid B.Book.meaning self.now s).net }
     {
-        self.trial_quantity(security) != 0
+        let mut quantities = self.below.all_nets();
+        // Kept: tried; of a number that is written through `iter_mut` the proof knows less than of one written at its place.
+        for security in 0..SECURITIES {
+            quantities[security] = self.above.net_at(security as u16) - quantities[security];
+        }
+        quantities
     }
 
-    // How many trial quantities are other than 0.
-    fn trial_count(&self) -> u32
-        ensures { result ≡ nonzero (trial_quantities (trial_nets self.now) (B.Positions.nets self.now.below)) }
+    // How many of its trial quantities are other than 0.
+    fn trial_count(&self, quantities: &[i64; SECURITIES]) -> u32
+        requires { (s : ℕ) → s < security_count → slice_index_or quantities.now s (pos 0) ≡ (laid B.Book.meaning self.now s).net }
+        ensures { result ≡ nonzero (laid B.Book.meaning self.now) }
     {
-        (0..SECURITIES as u16)
-            .filter(|security| self.is_moved(*security))
-            .count() as u32
+        quantities.iter().filter(|quantity| **quantity != 0).count() as u32
     }
 
-    // Posts one booking for each trial quantity other than 0, by rising security. None is refused: the book below comes to
-    // the nets of the layer, which keep to the limit.
-    fn post(&mut self)
-        requires { nonzero (trial_quantities (trial_nets self.old) (B.Positions.nets self.old.below)) ≤ B.Book.left self.old.below }
+    // Posts the trial quantity of a security, where it is other than 0. It is not refused: the net below comes to the net of
+    // the layer, which keeps to the limit.
+    fn post_one(&mut self, security: u16, quantity: i64)
+        requires known { security < security_count }
+        requires quantity { quantity ≡ (laid B.Book.meaning self.old security).net }
+        requires room { moves (laid B.Book.meaning self.old) security ≡ true → 0 < (B.Book.meaning.account self.old.below).left }
         ensures above { self.new.above ≡ self.old.above }
-        ensures nets { B.Positions.nets self.new.below ≡ trial_nets self.old }
-        ensures left { B.Book.left self.new.below + nonzero (trial_quantities (trial_nets self.old) (B.Positions.nets self.old.below)) ≡ B.Book.left self.old.below }
-        ensures taken { Taken B.Positions.nets B.Book.left B.Book.posts B.Positions.layer self.old.below (postings (trial_quantities (trial_nets self.old) (B.Positions.nets self.old.below)) security_count) self.new.below }
+        ensures taken { Taken B.Book.meaning self.old.below (posting (laid B.Book.meaning self.old) security) self.new.below }
     {
-        // Kept: an iterator chain is no plainer: layer and book are asked by the number itself.
-        for security in 0..SECURITIES as u16 {
-            let quantity = self.trial_quantity(security);
-            if quantity != 0 {
-                self.below.book(Booking { security, quantity }).unwrap();
-            }
+        if quantity != 0 {
+            self.below.book(Booking { security, quantity }).unwrap();
         }
     }
 
-    // Posts the trial quantities to the book below, and gives back all bookings of the layer.
-    pub fn commit(&mut self) -> Result<(), Fault>
-        ensures { Commits B.Positions.nets B.Book.left B.Book.posts B.Positions.layer self.old result self.new }
+    // Posts one booking for each trial quantity other than 0, by rising security. The book below comes to the nets of the
+    // layer.
+    #[tactic(auto, using(crate::proofs::Posting::walked_none, crate::proofs::Posting::walked_room, crate::proofs::Posting::walked_quantity, crate::proofs::Posting::walked_next))]
+    fn post(&mut self, quantities: &[i64; SECURITIES])
+        requires room { nonzero (laid B.Book.meaning self.old) ≤ (B.Book.meaning.account self.old.below).left }
+        requires quantities { (s : ℕ) → s < security_count → slice_index_or quantities.now s (pos 0) ≡ (laid B.Book.meaning self.old s).net }
+        ensures above { self.new.above ≡ self.old.above }
+        ensures still { (trial_account self.new).holdings ≡ (trial_account self.old).holdings }
+        ensures holdings { (B.Book.meaning.account self.new.below).holdings ≡ (trial_account self.old).holdings }
+        ensures left { (B.Book.meaning.account self.new.below).left + nonzero (laid B.Book.meaning self.old) ≡ (B.Book.meaning.account self.old.below).left }
+        ensures taken { Taken B.Book.meaning self.old.below (postings (laid B.Book.meaning self.old) security_count) self.new.below }
     {
-        if self.below.bookings_left() < self.trial_count() {
-            return Err(TOO_FEW_BOOKINGS_BELOW);
+        for security in 0..SECURITIES as u16 {
+            self.post_one(security, quantities[security as usize]);
         }
-        self.post();
+    }
+
+    /// Posts the trial quantities to the book below, and gives back all bookings of the layer.
+    pub fn commit(&mut self) -> Result<(), Fault>
+        ensures { Commits B.Book.meaning self.old result self.new }
+    {
+        let quantities = self.quantities();
+        if self.below.bookings_left() < self.trial_count(&quantities) {
+            return Err(Refusal::TooFewBookingsBelow.at(0));
+        }
+        self.post(&quantities);
         self.above.renew(TRIAL_BOOKINGS as u32);
         Ok(())
     }
 
-    // Sets every trial quantity to 0, and gives back all bookings of the layer.
+    /// Sets every trial quantity to 0, and gives back all bookings of the layer.
     pub fn drop_trial(&mut self)
         ensures below { self.new.below ≡ self.old.below }
-        ensures nets { trial_nets self.new ≡ B.Positions.nets self.old.below }
-        ensures left { trial_left self.new ≡ trial_limit }
+        ensures holdings { (trial_account self.new).holdings ≡ (B.Book.meaning.account self.old.below).holdings }
+        ensures left { (trial_account self.new).left ≡ trial_limit }
     {
         self.above = Ledger::copy_of(&self.below, TRIAL_BOOKINGS as u32);
     }
@@ -107,13 +119,19 @@ impl<B: Book> Positions for Trial<B> {
     fn net(&self, security: u16) -> Result<i64, Fault> {
         self.above.net(Layer::Trial, security)
     }
+
+    fn all_nets(&self) -> [i64; SECURITIES] {
+        self.above.nets()
+    }
 }
 
 impl<B: Book> Book for Trial<B> {
-    ghost left = { trial_left };
+    // A booking leaves the book below as it is.
+    ghost meaning = { trial_meaning };
 
-    // The book below is left as it is.
-    ghost posts = { same_below };
+    ghost netted = { λ t. refl };
+
+    ghost named = { refl };
 
     fn bookings_left(&self) -> u32 {
         self.above.bookings_left()

@@ -1,5 +1,5 @@
 use Rattle.std.proofs.Common.{◌≡◌, ◌*◌, ◌≤◌, get_or}
-use Rattle.rules.specs.Sums.{sum_below}
+use Rattle.terms.specs.Sums.{sum_below}
 use Rattle.rules.specs.Laws.{deposit_limit}
 use Rattle.deposits.specs.Told.{none}
 use Rattle.deposits.proofs.total.total.Given as goal

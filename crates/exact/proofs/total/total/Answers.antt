@@ -1,6 +1,6 @@
 use Rattle.std.proofs.Common.{◌≡◌, ℕ, ◌+◌, ℤ, ◌+ℤ◌, sym, ap, ◌∙◌, arith}
 use borrow.Author.Differences.{ints}
-use Rattle.rules.specs.Sums.{sum_belowℤ}
+use Rattle.terms.specs.Sums.{sum_belowℤ}
 use Rattle.rules.proofs.Sums.{sumℤ_more, sumℤ_none}
 use Rattle.exact.specs.Owed.{owed_in}
 use Rattle.exact.proofs.total.total.Goals as goal

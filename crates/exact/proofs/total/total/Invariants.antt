@@ -1,5 +1,5 @@
 use Rattle.std.proofs.Common.{◌≡◌, ◌*◌, ◌≤◌, nat_abs}
-use Rattle.rules.specs.Sums.{sum_belowℤ}
+use Rattle.terms.specs.Sums.{sum_belowℤ}
 use Rattle.exact.specs.Owed.{owed_in}
 use Rattle.exact.specs.Sizes.{owed_limit}
 use Rattle.exact.proofs.total.total.Given as goal

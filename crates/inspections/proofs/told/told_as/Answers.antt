@@ -1,5 +1,5 @@
-use Rattle.inspections.proofs.Bytes.{told_line}
+use Rattle.inspections.proofs.Bytes.{told_refused}
 use Rattle.inspections.proofs.told.told_as.Goals as goal
 
-pub returns : goal.returns
-returns c = told_line c.args.line.digits.now c.args.line.place c.try_from.result c.ok.result c.map.result c.try_from.ensures c.ok.ensures.value c.map.ensures.cases
+pub returns-in-Err : goal.returns-in-Err
+returns-in-Err c = told_refused c.args.line.digits.now c.in-Err.field-0 c.in-Err.ensures

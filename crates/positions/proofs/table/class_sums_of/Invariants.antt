@@ -3,5 +3,5 @@ use Rattle.positions.specs.ClassSums.{Summed}
 use Rattle.terms.specs.Limits.{class_count}
 use Rattle.positions.proofs.table.class_sums_of.Given as goal
 
-abbrev pub invariant-loop-position : goal.invariant-loop-position
-invariant-loop-position l = (length l.sums ≡ class_count) × Summed l.all l.position-index l.sums
+abbrev pub invariant-loop-valuation : goal.invariant-loop-valuation
+invariant-loop-valuation l = (length l.sums ≡ class_count) × Summed l.all l.valuation-index l.sums

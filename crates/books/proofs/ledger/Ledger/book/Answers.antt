@@ -3,4 +3,4 @@ use Rattle.books.proofs.Tables.{ledger_books}
 use Rattle.books.proofs.ledger.Ledger.book.Goals as goal
 
 pub returns : goal.returns
-returns c = ledger_books c.args.layer c.args.self.now _ c.args.booking.security c.args.booking.quantity (search rules) (search rules) (search rules)
+returns c = ledger_books c.args.layer c.args.self.now _ c.args.booking (search rules) (search rules) (search rules)

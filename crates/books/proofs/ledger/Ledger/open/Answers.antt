@@ -1,5 +1,5 @@
 use Rattle.std.proofs.Common.{pos, sym, refl, subst, arith, rules}
-use Rattle.terms.specs.Limits.{net_limit}
+use Rattle.terms.specs.Limits.{net_limit, security_count}
 use Rattle.books.specs.Books.{Within}
 use Rattle.books.proofs.Limits.{zeros}
 use Rattle.books.proofs.ledger.Ledger.open.Goals as goal
@@ -7,7 +7,7 @@ use Rattle.books.proofs.ledger.Ledger.open.Goals as goal
 pub invariant_of-result : goal.invariant_of-result
 invariant_of-result c =
     let none : Within net_limit (pos 0) = omega arith in
-    record { long = search rules; limited = λ s. subst (Within net_limit) (sym (zeros 256 s)) none }
+    record { long = search rules; limited = λ s. subst (Within net_limit) (sym (zeros security_count s)) none }
 
 pub returns : goal.returns
-returns c = record { nets = λ i s. zeros 256 s i; left = refl }
+returns c = record { holdings = λ i s. record { net = zeros security_count s i }; left = refl }

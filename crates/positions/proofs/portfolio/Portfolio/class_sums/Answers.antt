@@ -1,11 +1,11 @@
-use Rattle.std.proofs.Common.{◌≡◌, ap, arith, rules}
-use Rattle.positions.specs.declared.class_sum.ClassSum.{ClassSum}
-use Rattle.positions.specs.ClassSums.{class_sum}
-use Rattle.positions.proofs.Summing.{sums_small}
+use Rattle.std.proofs.Common.{rules}
+use Rattle.positions.proofs.Tables.{summed_idle, summed_small}
 use Rattle.positions.proofs.portfolio.Portfolio.class_sums.Goals as goal
 
-pub returns-in-Some-clause-small : goal.returns-in-Some-clause-small
-returns-in-Some-clause-small c =
-    let p = c.args.self.now in
-    let is : c.in-Some.sum.now ≡ class_sum p.all 256 c.args.class = search rules in
-    omega (arith, ap (λ (w : ClassSum). w.bought.units) is, ap (λ (w : ClassSum). w.sold.units) is, sums_small p.all p.small c.args.class 256)
+pub invariant_of-result : goal.invariant_of-result
+invariant_of-result c =
+    let all = c.args.self.now.all in record {
+      wide = search rules;
+      small = summed_small all c.class_sums_of.result c.args.self.now.small c.class_sums_of.ensures;
+      idle = summed_idle all c.class_sums_of.result c.class_sums_of.ensures;
+    }

@@ -1,13 +1,15 @@
-use Rattle.std.proofs.Common.{rules, ℕ, ℤ, refl, ◌∙◌}
-use Rattle.std.proofs.lemmas.Iterator.{YieldsList-from_range}
-use Rattle.std.proofs.lemmas.Iterator.Consumers.{YieldsList-from_filter, count_from_yields_List}
+use Rattle.std.proofs.Common.{◌≡◌, ℤ, pos, get_or, not, ap, ◌∙◌, arith, rules}
+use Rattle.std.specs.Prelude.{count_by}
+use Rattle.books.specs.Books.{is_zero}
 use Rattle.terms.specs.Limits.{security_count}
-use Rattle.trials.specs.Trials.{moves, trial_nets, trial_quantities}
-use Rattle.trials.proofs.Counts.{count_filtered}
+use Rattle.trials.specs.Trials.{laid, moves}
+use Rattle.trials.proofs.Counts.{count_agrees, counted}
 use Rattle.trials.proofs.trial.Trial.trial_count.Goals as goal
 
 pub returns : goal.returns
 returns g c =
-    let quantities : ℕ → ℤ = trial_quantities (trial_nets c.args.self.now) (g.B.Positions.nets c.args.self.now.below) in
-    count_from_yields_List _ c.count.result c.count.ensures.ran (YieldsList-from_filter _ (moves quantities) (YieldsList-from_range 0 security_count security_count c.filter.ensures.source refl) c.filter.ensures.closure (λ x b q k. search rules))
-    ∙ count_filtered (moves quantities) security_count
+    let trial = laid g.B.Book.meaning c.args.self.now in
+    let xs = c.args.quantities.now in
+    let by : c.count.result ≡ count_by (λ z. not (is_zero z)) xs = search rules in
+    by ∙ counted (λ z. not (is_zero z)) xs security_count (omega arith)
+    ∙ count_agrees (λ s. not (is_zero (get_or xs s (pos 0)))) (moves trial) security_count (λ s l. ap (λ (z : ℤ). not (is_zero z)) (c.requires s l))
