@@ -1,8 +1,9 @@
 -- What a book of positions means: what is held of each security, and how many bookings are left. Assumes nothing.
-use Rattle.std.specs.Prelude.{◌≡◌, ℕ, ◌-◌, ◌≤◌, Bool, true, false, cond, not, ◌&&◌, ℤ, pos, ◌+ℤ◌, ◌-ℤ◌, is_ok, None, Option, Result, ◌==◌, nat_le, nat_lt, unsigned_abs}
+use Rattle.std.specs.Prelude.{◌≡◌, ℕ, ◌-◌, ◌≤◌, Bool, true, cond, not, ◌&&◌, ℤ, pos, ◌+ℤ◌, ◌-ℤ◌, is_ok, None, Option, Result, ◌==◌, nat_le, nat_lt, unsigned_abs}
 use Rattle.std.specs.Borrow.{MutBor}
 use Rattle.terms.specs.Limits.{security_count, net_limit, quantity_limit}
-use Rattle.terms.specs.Questions.{ask, answer}
+use Rattle.terms.specs.Outcomes.{Step}
+use Rattle.terms.specs.Questions.{ask, answer, fault_of}
 use Rattle.terms.specs.declared.fault.Fault.{Fault}
 use Rattle.terms.specs.declared.layer.Layer.{Layer}
 use Rattle.terms.specs.declared.refusal.Refusal.{Refusal}
@@ -101,7 +102,11 @@ booking_refusal a b =
 abbrev pub Answer : Type 0
 Answer = Result (Unit {0}) Fault
 
--- the answer to a booking: the first question answered no decides
+-- why a booking is refused, if it is: the first question answered no decides
+abbrev pub booking_fault_in : Layer → Account → Booking → Option Fault
+booking_fault_in layer a b = fault_of layer b.security (booking_refusal a b)
+
+-- the answer to a booking
 abbrev pub booking_answer : Layer → Account → Booking → Answer
 booking_answer layer a b = answer layer b.security tt (booking_refusal a b)
 
@@ -128,10 +133,7 @@ lent_meaning book = record {
 
 -- What a booking does to a book.
 pub record Books {B : Type 0} (book : Meaning B) (before : B) (booking : Booking) (result : Answer) (after : B) : Type 0 where
-  pub decided : result ≡ booking_answer book.layer (book.account before) booking
-  -- a refusal changes nothing
-  pub refused : is_ok result ≡ false → after ≡ before
-  -- else the booking is entered in the account
-  pub moved : is_ok result ≡ true → book.account after ≡ booked (book.account before) booking
-  -- and does to the whole value what the book says
+  -- it is refused, and then nothing changes, or it is entered in the account
+  pub step : Step book.account (booking_fault_in book.layer (book.account before) booking) (booked (book.account before) booking) before result after
+  -- and then does to the whole value what the book says
   pub posted : is_ok result ≡ true → book.posts before booking after

@@ -1,8 +1,9 @@
 // The questions that every book puts to a booking, once its net is read.
-ghost use Rattle.books.specs.Books.{account_of, booking_answer, bookable, reading_refusal, within, Within};
+ghost use Rattle.books.specs.Books.{account_of, booking_fault_in, bookable, reading_refusal, within, Within};
 ghost use Rattle.terms.specs.Limits.{net_limit};
 ghost use Rattle.terms.specs.Questions.{answer};
 ghost use Rattle.std.specs.Prelude.{◌≡◌};
+ghost use Rattle.std.specs.Result.{result_err};
 
 use crate::booking::Booking;
 use terms::fault::Fault;
@@ -34,10 +35,10 @@ pub(crate) fn known(layer: Layer, security: u16) -> Result<(), Fault>
     Ok(())
 }
 
-// The answer to a booking of a security that has this net, in a book with so many bookings left.
+// Whether a booking is refused, of a security that has this net, in a book with so many bookings left.
 pub(crate) fn judge(layer: Layer, booking: Booking, left: u32, net: i64) -> Result<(), Fault>
     requires { Within net_limit net }
-    ensures { result ≡ booking_answer layer (account_of (λ _. net) left) booking }
+    ensures { result_err result ≡ booking_fault_in layer (account_of (λ _. net) left) booking }
 {
     let Booking { security, quantity } = booking;
     known(layer, security)?;

@@ -1,11 +1,7 @@
 -- What the calls of a draft and of a book do, in the words of an intake. Assumes nothing.
-use Rattle.std.proofs.Common.{◌≡◌, ℕ, List, get_or, ℤ, Some, None, Option, Result, sym, refl, ap, ◌∙◌, subst}
-use Rattle.std.specs.Result.{result_err}
+use Rattle.std.proofs.Common.{◌≡◌, ℕ, List, get_or, ℤ, Result, sym, ap, ◌∙◌, subst}
 use Rattle.terms.specs.declared.fault.Fault.{Fault}
-use Rattle.terms.specs.declared.layer.Layer.{Layer}
 use Rattle.terms.specs.declared.layer.Layer.TheVariants.{Book}
-use Rattle.terms.specs.declared.refusal.Refusal.{Refusal}
-use Rattle.terms.specs.Questions.{answer, fault_of}
 use Rattle.terms.specs.Choices.{signed}
 use Rattle.frames.specs.Fields.{numbers_of, text_of}
 use Rattle.frames.specs.Kinds.{class_kind, security_kind, pair_kind, booking_kind}
@@ -27,22 +23,13 @@ use Rattle.entries.proofs.Bringing.{class_numbers, security_numbers, pair_number
 use Rattle.entries.specs.Desks.{entered}
 use Rattle.entries.specs.Intakes.{Adds, Posts, table_account}
 
--- the fault of an answer is that of its questions
-pub answer_fault : (layer : Layer) (place : ℕ) (questions : Option Refusal) → result_err (answer {V = Unit {0}} layer place tt questions) ≡ fault_of layer place questions
-answer_fault layer place None = refl
-answer_fault layer place (Some refusal) = refl
-
 -- what a net table means
 abbrev pub table_meaning : Meaning NetTable
 table_meaning = record { account = table_account; posts = no_more; layer = Book }
 
 pub booking_moves : (before : NetTable) (security : ℕ) (quantity : ℤ) (result : Result (Unit {0}) Fault) (after : NetTable) → Books table_meaning before (entered security quantity) result after
     → Posts security quantity before result after
-booking_moves before security quantity result after books = record {
-  decided = ap result_err books.decided ∙ answer_fault Book security _;
-  refused = books.refused;
-  moved = books.moved;
-}
+booking_moves before security quantity result after books = books.step
 
 -- ---- a call with what the record of some fields says
 

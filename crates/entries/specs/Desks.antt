@@ -5,13 +5,13 @@ use Rattle.terms.specs.declared.fault.Fault.{Fault}
 use Rattle.terms.specs.declared.layer.Layer.TheVariants.{Book}
 use Rattle.terms.specs.declared.refusal.Refusal.TheVariants.{LineOutOfOrder}
 use Rattle.terms.specs.Limits.{booking_limit}
-use Rattle.terms.specs.Questions.{ask, fault_of, or_else}
+use Rattle.terms.specs.Questions.{ask, or_else}
 use Rattle.frames.specs.Frames.{line_refusal}
 use Rattle.frames.specs.Kinds.{all_kinds}
 use Rattle.rules.specs.Rows.{Rows}
 use Rattle.sheets.specs.Drafts.{no_rows, with_class, with_security, with_pair, class_refusal, security_refusal, pair_refusal}
 use Rattle.books.specs.declared.booking.Booking.{Booking}
-use Rattle.books.specs.Books.{Account, booked, booking_refusal, no_holdings}
+use Rattle.books.specs.Books.{Account, booked, booking_fault_in, no_holdings}
 use Rattle.entries.specs.declared.intake.Stage.{Stage}
 use Rattle.entries.specs.declared.intake.Stage.TheVariants.{Rows as InRows, Bookings as InBookings}
 use Rattle.entries.specs.Entries.{Row, of_class, of_security, of_pair, Entry, row_entry, booking_entry, entry_of}
@@ -53,7 +53,7 @@ with_row rows (of_pair pair) = with_pair rows pair
 
 -- why a book refuses a booking, if it does
 abbrev pub booking_fault : Account → Booking → Option Fault
-booking_fault account b = fault_of Book b.security (booking_refusal account b)
+booking_fault account b = booking_fault_in Book account b
 
 -- the booking of an entry
 abbrev pub entered : ℕ → ℤ → Booking

@@ -4,6 +4,7 @@ use Rattle.std.proofs.lemmas.Int.{ints}
 use Rattle.std.proofs.lemmas.Bool.{cases_Bool}
 use Rattle.terms.specs.declared.layer.Layer.TheVariants as layers
 use Rattle.books.specs.declared.booking.Booking.{Booking}
+use Rattle.books.proofs.Bookings.{booking_answered}
 use Rattle.books.specs.Books.{Account, Answer, Books, Holding, Meaning, added, booked, booking_answer, minus, no_holdings, plus, with_booking}
 use Rattle.books.proofs.Accounts.{minus_same, same_holding}
 use Rattle.trials.specs.declared.trial.Trial.{Trial}
@@ -40,14 +41,14 @@ module _ {B : Type 0} (book : Meaning B) where
       × (bare_tally (book.account after) ≡ fed (bare_rules book.layer) (bare_tally (book.account before)) (Book b) (is_ok r))
       × Taken book before (posted (bare_rules book.layer) (bare_tally (book.account before)) (Book b) (is_ok r)) after
   bare_booking before after b (Ok _) h = (
-    h.decided ∙ ap (λ a. booking_answer book.layer a b) (bare_shown (book.account before)),
-    ap bare_tally (h.moved refl),
+    booking_answered book before b (Ok _) after h ∙ ap (λ a. booking_answer book.layer a b) (bare_shown (book.account before)),
+    ap bare_tally (h.step.moved refl),
     (after, (h, refl)),
   )
   bare_booking before after b (Err f) h = (
-    h.decided ∙ ap (λ a. booking_answer book.layer a b) (bare_shown (book.account before)),
-    ap (λ x. bare_tally (book.account x)) (h.refused refl),
-    h.refused refl,
+    booking_answered book before b (Err f) after h ∙ ap (λ a. booking_answer book.layer a b) (bare_shown (book.account before)),
+    ap (λ x. bare_tally (book.account x)) (h.step.refused refl),
+    h.step.refused refl,
   )
 
   abbrev tallied : Trial B → Tally
@@ -57,7 +58,7 @@ module _ {B : Type 0} (book : Meaning B) where
   module _ (before after : Trial B) (b : Booking) (call : Call TrialCall) (r : Answer) (is : call ≡ Book b) (h : Books trial_meaning before b r after) where
     pub booking_decided : r ≡ decide trial_rules (tallied before) call
     booking_decided =
-        h.decided ∙ ap (λ a. booking_answer layers.Trial a b) (trial_shown (trial_account before) (book.account before.below))
+        booking_answered trial_meaning before b r after h ∙ ap (λ a. booking_answer layers.Trial a b) (trial_shown (trial_account before) (book.account before.below))
         ∙ ap (decide trial_rules (tallied before)) (sym is)
 
     pub booking_noted : tallied after ≡ fed trial_rules (tallied before) call (is_ok r)
@@ -65,9 +66,9 @@ module _ {B : Type 0} (book : Meaning B) where
         ⊎_elim
         (λ ok.
         let same = ap book.account (h.posted ok) in
-        let trial = (λ i. on_trial (h.moved ok i) (same i)) ∙ booked_trial (trial_account before) (book.account before.below) b in
-        same_tally (ap (λ a. a.holdings) same) trial (ap (λ a. a.left) (h.moved ok)) (ap (λ a. a.left) same) ∙ (λ i. fed trial_rules (tallied before) (sym is i) (sym ok i)))
-        (λ err. ap tallied (h.refused err) ∙ (λ i. fed trial_rules (tallied before) (sym is i) (sym err i)))
+        let trial = (λ i. on_trial (h.step.moved ok i) (same i)) ∙ booked_trial (trial_account before) (book.account before.below) b in
+        same_tally (ap (λ a. a.holdings) same) trial (ap (λ a. a.left) (h.step.moved ok)) (ap (λ a. a.left) same) ∙ (λ i. fed trial_rules (tallied before) (sym is i) (sym ok i)))
+        (λ err. ap tallied (h.step.refused err) ∙ (λ i. fed trial_rules (tallied before) (sym is i) (sym err i)))
         (cases_Bool (is_ok r))
 
   -- and so is a commit; it posts what is on trial

@@ -18,9 +18,7 @@ module _ {B : Type 0} (book : Meaning B) where
       let h = t.1.0 in
       let rest = taken_lent next bs after t.1.1 in
       let books : Books book before.now b (Ok tt) next.now = record {
-        decided = h.decided;
-        refused = λ e. ap (λ r. r.now) (h.refused e);
-        moved = h.moved;
+        step = record { decided = h.step.decided; refused = λ e. ap (λ r. r.now) (h.step.refused e); moved = h.step.moved };
         posted = λ e. (h.posted e).1;
       } in
       (rest.0 ∙ (h.posted refl).0, (next.now, (books, rest.1)))

@@ -114,7 +114,7 @@ module _ {B : Type 0} (book : Meaning B) where
           let one : Went_from b (booking_of i (over above (held b) i) ∷ []) after = subst (λ z. Went_from b (cond z (booking_of i (over above (held b) i) ∷ []) []) after) m t in
           let books : Books book b (booking_of i (over above (held b) i)) (Ok tt) after = subst (Books book b (booking_of i (over above (held b) i)) (Ok tt)) (sym one.1.1) one.1.0 in
           let bk = booking_of i (over above (held b) i) in
-          let moved : (s : ℕ) → held after s ≡ with_booking (held b) bk s = λ s. ap (λ a. a.holdings s) (books.moved refl) in
+          let moved : (s : ℕ) → held after s ≡ with_booking (held b) bk s = λ s. ap (λ a. a.holdings s) (books.step.moved refl) in
           record {
             so_far = upto_next above (held start) i (held after) (λ s ne. moved s ∙ booked_other (held b) bk s ne ∙ p.so_far s) (moved i ∙ booked_same (held b) bk ∙ plus_minus (above i) (held b i));
             spent = omega (arith, p.spent, counted m, bookings.spent book b bk after books);

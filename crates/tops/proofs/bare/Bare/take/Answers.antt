@@ -10,10 +10,8 @@ returns g c =
     let after = c.book.new.self.book in
     let h = c.book.ensures in
     let own : Books book before c.args.booking c.book.result after = record {
-      decided = h.decided;
-      refused = λ e. ap (λ b. b.book) (h.refused e);
-      moved = h.moved;
+      step = record { decided = h.step.decided; refused = λ e. ap (λ b. b.book) (h.step.refused e); moved = h.step.moved };
       posted = h.posted;
     } in
     let law = bare_booking book before after c.args.booking c.book.result own in
-    record { answer = law.0; tally = law.1; posted = law.2; refused = h.refused }
+    record { answer = law.0; tally = law.1; posted = law.2; refused = h.step.refused }

@@ -2,6 +2,7 @@ use Rattle.std.proofs.Common.{◌≡◌, false, not, Ok, is_ok, sym, ap, ◌∙�
 use Rattle.std.proofs.lemmas.Int.{to_z-of_z}
 use Rattle.terms.specs.Limits.{net_limit}
 use Rattle.books.specs.Books.{Answer, Books, Holding, Within, booking_answer, booking_of, is_nothing}
+use Rattle.books.proofs.Bookings.{booking_answered}
 use Rattle.trials.specs.Trials.{laid, trial_account}
 use Rattle.trials.proofs.Counts.{zero_bits, nonzero_bits}
 use Rattle.trials.proofs.Posting.{posting_accepted, posting_none, posting_taken}
@@ -35,7 +36,7 @@ taken g c =
     let i = c.args.security in
     let moving = moving g c in
     let below = subst (λ n. Within net_limit (n i)) (g.met.B.Book.netted b) (g.B.Positions.limited b i) in
-    c.book.ensures.decided
+    booking_answered m b (record { security = i; quantity = to_z w64 (of_z w64 c.args.quantity) }) c.book.result c.book.new.self c.book.ensures
     ∙ ap (booking_answer m.layer (m.account b)) (booking_is g c)
     ∙ posting_accepted m (trial_account c.args.self.now).holdings b i c.requires.known (c.requires.room (ap not moving)) moving (c.args.self.now.above.limited i) below
 

@@ -1,11 +1,12 @@
-use Rattle.std.proofs.Common.{◌≡◌, ◌<◌, ◌+ℤ◌, Ok, sym, ◌∙◌, subst, arith, w64, SFits, rules}
+use Rattle.std.proofs.Common.{◌≡◌, ◌<◌, ◌+ℤ◌, Ok, sym, ap, ◌∙◌, subst, arith, w64, SFits, rules}
+use Rattle.std.specs.Result.{result_err}
 use Rattle.std.proofs.lemmas.Int.{to_z-of_z}
 use Rattle.std.proofs.lemmas.Bool.{ltb-true}
 use Rattle.lists.specs.Lists.{items, Appended}
 use Rattle.lists.proofs.Memory.{appended, append_ok}
 use Rattle.terms.specs.Limits.{net_limit, security_count}
 use Rattle.terms.specs.declared.layer.Layer.TheVariants as layers
-use Rattle.books.specs.Books.{Within, account_of, booking_answer}
+use Rattle.books.specs.Books.{Within, account_of, booking_fault_in}
 use Rattle.books.specs.Journals.{journal_account, journal_left, journal_limited, journal_meaning}
 use Rattle.books.specs.Totals.{total}
 use Rattle.books.proofs.Bookings.{was_accepted, accepts_so}
@@ -20,15 +21,15 @@ judge-requires c =
     let f : SFits w64 c.sum-net.result = search rules in
     subst (Within net_limit) (sym (to_z-of_z w64 c.sum-net.result f ∙ c.sum-net.ensures)) (journal_limited c.args.self.now c.args.booking.security)
 
-judged : (c : After-judge) → c.judge.result ≡ booking_answer layers.Book (journal_account c.args.self.now) c.args.booking
+judged : (c : After-judge) → result_err c.judge.result ≡ booking_fault_in layers.Book (journal_account c.args.self.now) c.args.booking
 judged c =
     let f : SFits w64 c.sum-net.result = search rules in
     let n = to_z-of_z w64 c.sum-net.result f ∙ c.sum-net.ensures in
     let l = c.free_places-left.ensures in
-    c.judge.ensures ∙ (λ i. booking_answer layers.Book (account_of (λ _. n i) (l i)) c.args.booking)
+    c.judge.ensures ∙ (λ i. booking_fault_in layers.Book (account_of (λ _. n i) (l i)) c.args.booking)
 
 yes : (c : After-judge) → c.judge.result ≡ Ok tt → Accepted (journal_account c.args.self.now) c.args.booking
-yes c e = was_accepted layers.Book (journal_account c.args.self.now) c.args.booking (sym e ∙ judged c)
+yes c e = was_accepted layers.Book (journal_account c.args.self.now) c.args.booking (sym (ap result_err e) ∙ judged c)
 
 -- a place is free
 free_place : (c : After-judge) → c.judge.result ≡ Ok tt → 0 < journal_left c.args.self.now
@@ -63,5 +64,10 @@ returns c =
     let after = c.append.new.self in
     let h = listed (goal.at.returns c).After-append in
     let free = free_place d e in
-    accepts_so journal_meaning j b c.append.result _ (append_ok _ _ _ _ c.append.ensures.cases (omega arith)) (sym e ∙ judged d)
+    accepts_so journal_meaning j b c.append.result _ (append_ok _ _ _ _ c.append.ensures.cases (omega arith)) (sym (ap result_err e) ∙ judged d)
     (nets_after b j.list after h) (left_after b j.list after h free) (record { lender = c.append.ensures.lender; appended = h })
+
+pub returns-in_err-judge : goal.returns-in_err-judge
+returns-in_err-judge c =
+    let j = judged (goal.at.returns-in_err-judge c).After-judge in
+    search rules
