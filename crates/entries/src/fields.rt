@@ -9,7 +9,7 @@ ghost use Rattle.std.specs.Prelude.{◌≡◌, None as Nothing, slice_index};
 use books::book::Book;
 use books::booking::Booking;
 use books::table::NetTable;
-use frames::codec::read_fields;
+use frames::codec::read_digits;
 use frames::digits::Digits;
 use frames::kinds::{BookingFrame, ClassFrame, PairFrame, SecurityFrame};
 use rules::rows::{ClassRow, PairRow, SecurityRow};
@@ -23,7 +23,7 @@ pub(crate) fn add_class(draft: &mut Draft, fields: Digits<'_>) -> Result<(), Fau
     requires { digits_refusal class_kind fields.text.now ≡ Nothing }
     ensures { Adds (listed_class (numbers_of class_kind.widths fields.entry.text.now)) draft.old result draft.new }
 {
-    let item = read_fields::<ClassFrame>(fields)?;
+    let item = read_digits::<ClassFrame>(fields)?;
     let row = ClassRow {
         kind: item.kind,
         y: item.y,
@@ -38,7 +38,7 @@ pub(crate) fn add_security(draft: &mut Draft, fields: Digits<'_>) -> Result<(), 
     requires { digits_refusal security_kind fields.text.now ≡ Nothing }
     ensures { Adds (listed_security (numbers_of security_kind.widths fields.entry.text.now)) draft.old result draft.new }
 {
-    let item = read_fields::<SecurityFrame>(fields)?;
+    let item = read_digits::<SecurityFrame>(fields)?;
     let row = SecurityRow {
         class: u16::from(item.class),
         price: item.price,
@@ -53,7 +53,7 @@ pub(crate) fn add_pair(draft: &mut Draft, fields: Digits<'_>) -> Result<(), Faul
     requires { digits_refusal pair_kind fields.text.now ≡ Nothing }
     ensures { Adds (listed_pair (numbers_of pair_kind.widths fields.entry.text.now)) draft.old result draft.new }
 {
-    let item = read_fields::<PairFrame>(fields)?;
+    let item = read_digits::<PairFrame>(fields)?;
     let row = PairRow {
         first: u16::from(item.first),
         second: u16::from(item.second),
@@ -68,7 +68,7 @@ pub(crate) fn book(table: &mut NetTable, fields: Digits<'_>) -> Result<(), Fault
     requires { digits_refusal booking_kind fields.text.now ≡ Nothing }
     ensures { Posts (slice_index (numbers_of booking_kind.widths fields.entry.text.now) 0) (quantity_of (numbers_of booking_kind.widths fields.entry.text.now)) table.old result table.new }
 {
-    let item = read_fields::<BookingFrame>(fields)?;
+    let item = read_digits::<BookingFrame>(fields)?;
     table.book(Booking {
         security: u16::from(item.security),
         quantity: item.side.signed(item.quantity),

@@ -49,18 +49,21 @@ figures_hold = (
                                   (
                                     refl,
                                     (
-                                      table_lawful (one_share 1000000) refl,
+                                      refl,
                                       (
-                                        refl,
+                                        table_lawful (one_share 1000000) refl,
                                         (
-                                          table_lawful (one_share 1000001) refl,
+                                          refl,
                                           (
-                                            refl,
+                                            table_lawful (one_share 1000001) refl,
                                             (
-                                              (refl, refl, refl),
+                                              refl,
                                               (
-                                                refl,
-                                                tt,
+                                                (refl, refl, refl),
+                                                (
+                                                  refl,
+                                                  tt,
+                                                ),
                                               ),
                                             ),
                                           ),

@@ -118,6 +118,8 @@ pub data Figure : Type 0 where
   amount_is : ℕ → ℕ → ℕ → ℕ → Figure
   -- A and V of so many units of a security in a class of this kind
   values : ℕ → SecurityRow → ClassKind → ℕ → ℕ → Figure
+  -- such a position has no value, since its A is above the limit
+  too_large : ℕ → SecurityRow → ClassKind → Figure
   -- the deposit of a portfolio is accepted
   accepted : Portfolio → Figure
   -- the deposit of a portfolio is refused: the number of the refusal, that of the layer, and the place
@@ -146,6 +148,7 @@ Holds (owes p dspan classes securities pairs) =
     × (pairs_held (rows_of p.sheet) (net_at p.nets) ≡ pairs)
 Holds (amount_is q price rate a) = amount q price rate ≡ a
 Holds (values q row kind a v) = position_value q row kind ≡ Some (record { units = a }, record { units = v })
+Holds (too_large q row kind) = position_value q row kind ≡ None
 Holds (accepted p) = refusal_of p ≡ None
 Holds (refused p number layer place) = refusal_of p ≡ Some (number, layer, place)
 Holds (committed net quantity after) =
@@ -209,6 +212,7 @@ figures =
     ∷ amount_is 1 1 15000 2
     ∷ amount_is 1 1 4999 0
     ∷ values 100000000 (priced 1000000 10000 1000000) Liquidity 100000000000000 100000000000000
+    ∷ too_large 100000000 (priced 1000001 10000 1000000) Liquidity
     ∷ lawful (one_share 1000000)
     ∷ accepted (large_position 1000000)
     ∷ lawful (one_share 1000001)

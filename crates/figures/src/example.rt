@@ -1,7 +1,7 @@
 // The example of two bonds, with the rates of January 2020: what it prints, beside what is told of it.
+use crate::failed::Failed;
 use crate::portfolio::deposit_of;
 use crate::told::say;
-use anyhow::Context;
 use books::book::{Book, Positions};
 use books::booking::Booking;
 use books::table::NetTable;
@@ -11,7 +11,7 @@ use sheets::reading::{priced_security, rates_of};
 use std::io;
 use terms::limits::WHOLE;
 use terms::money::Zloty;
-use wording::units::{Duration, Money, Percent, Price};
+use wording::units::{Amount, Duration, Money, Percent, Price};
 
 // The class of both bonds.
 const CLASS: u16 = 2;
@@ -74,6 +74,8 @@ struct PrintedBond {
     value: Money,
     duration: Duration,
     position: Money,
+    // the position as it is kept, in 10^-4 zloty, which the example does not print
+    kept: Amount,
 }
 
 const BOUGHT_POSITION: Money = Money(296_894_935);
@@ -89,6 +91,7 @@ const BOUGHT: PrintedBond = PrintedBond {
     value: Money(112_640_000),
     duration: Duration(2_635_786),
     position: BOUGHT_POSITION,
+    kept: Amount(29_689_493_504),
 };
 
 const SOLD: PrintedBond = PrintedBond {
@@ -100,6 +103,7 @@ const SOLD: PrintedBond = PrintedBond {
     value: Money(105_182_000),
     duration: Duration(2_977_599),
     position: SOLD_POSITION,
+    kept: Amount(31_318_981_802),
 };
 
 // What a portfolio owes: K and S, the three risks and their sum.
@@ -132,8 +136,8 @@ const BOUGHT_ALONE: PrintedMargin = PrintedMargin {
 };
 
 // A bond of the fixed table.
-pub(crate) fn bond(security: u16) -> anyhow::Result<PricedSecurity> {
-    priced_security(&DurationRates2020, security).context("the sheet has no such bond")
+pub(crate) fn bond(security: u16) -> Result<PricedSecurity, Failed> {
+    priced_security(&DurationRates2020, security).ok_or(Failed::NoBond)
 }
 
 // An amount to the nearest grosz, as the whole of it.
@@ -149,22 +153,28 @@ fn say_rates(rt: &HostRuntime, class: u16, printed: PrintedRates) -> io::Result<
     say(rt, "  dep, spread", Percent(told.dep), printed.dep)
 }
 
-fn say_bond(rt: &HostRuntime, book: &NetTable, printed: PrintedBond) -> anyhow::Result<()> {
+fn say_bond(rt: &HostRuntime, book: &NetTable, printed: PrintedBond) -> Result<(), Failed> {
     let security = printed.booking.security;
     let told = bond(security)?;
     let net = book.net(security)?;
-    let (value, position) = told.valuation(net).context("A is too large")?;
+    let (value, position) = told.valuation(net).ok_or(Failed::NoValue)?;
     println!(rt; " bond {security}")?;
     say(rt, "  quantity", net, printed.booking.quantity)?;
     say(rt, "  price", Price(told.row.price), printed.price)?;
     say(rt, "  value", in_grosz(value), printed.value)?;
     say(rt, "  md", Duration(told.row.duration), printed.duration)?;
     say(rt, "  position", in_grosz(position), printed.position)?;
+    say(
+        rt,
+        "  position, as kept",
+        Amount(position.units()),
+        printed.kept,
+    )?;
     say(rt, "  class", told.row.class, CLASS)?;
     Ok(())
 }
 
-fn say_margin(rt: &HostRuntime, book: &NetTable, printed: PrintedMargin) -> anyhow::Result<()> {
+fn say_margin(rt: &HostRuntime, book: &NetTable, printed: PrintedMargin) -> Result<(), Failed> {
     let told = deposit_of(book, &DurationRates2020)?;
     let class = told.classes[CLASS as usize];
     let deposit = Money(told.summary.dspan.grosz());
@@ -194,7 +204,7 @@ fn say_margin(rt: &HostRuntime, book: &NetTable, printed: PrintedMargin) -> anyh
 }
 
 // A portfolio booked and run through the sheet, the valuation and the deposit.
-fn run(rt: &HostRuntime, bonds: &[PrintedBond], printed: PrintedMargin) -> anyhow::Result<()> {
+fn run(rt: &HostRuntime, bonds: &[PrintedBond], printed: PrintedMargin) -> Result<(), Failed> {
     let mut book = NetTable::open();
     for bond in bonds {
         book.book(bond.booking)?;
@@ -207,7 +217,7 @@ fn run(rt: &HostRuntime, bonds: &[PrintedBond], printed: PrintedMargin) -> anyho
 }
 
 // Every figure that the example prints, with the rates before it.
-pub(crate) fn whole_example(rt: &HostRuntime) -> anyhow::Result<()> {
+pub(crate) fn whole_example(rt: &HostRuntime) -> Result<(), Failed> {
     println!(rt; "rates of January 2020")?;
     for (class, printed) in (1..).zip(RATES) {
         say_rates(rt, class, printed)?;

@@ -2,6 +2,7 @@
 #![tactic(auto)]
 
 mod example;
+mod failed;
 mod portfolio;
 mod sizes;
 mod strays;
@@ -9,11 +10,12 @@ mod table;
 mod told;
 
 use crate::example::whole_example;
+use crate::failed::Failed;
 use crate::sizes::sizes;
 use crate::strays::strays;
 use crate::table::proved_figures;
 
-fn main(rt: HostRuntime) -> anyhow::Result<()> {
+fn main(rt: HostRuntime) -> Result<(), Failed> {
     println!(rt;
         "figures proved under the definitions: {}",
         proved_figures()

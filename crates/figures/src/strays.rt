@@ -1,8 +1,8 @@
 // Where grosz go astray: figures that another order of the steps, or another rounding, would tell otherwise.
 use crate::example::bond;
+use crate::failed::Failed;
 use crate::portfolio::deposit_of;
 use crate::told::say;
-use anyhow::Context;
 use books::book::Book;
 use books::booking::Booking;
 use books::table::NetTable;
@@ -69,10 +69,10 @@ fn credited() -> Result<Money, Fault> {
 }
 
 // V of 1000 of the first bond, rounded once, and as it would be if that of one bond were rounded first.
-fn bond_values(rt: &HostRuntime) -> anyhow::Result<()> {
+fn bond_values(rt: &HostRuntime) -> Result<(), Failed> {
     let first = bond(0)?;
-    let (_, whole) = first.valuation(1_000).context("A is too large")?;
-    let (_, unit) = first.valuation(1).context("A is too large")?;
+    let (_, whole) = first.valuation(1_000).ok_or(Failed::NoValue)?;
+    let (_, unit) = first.valuation(1).ok_or(Failed::NoValue)?;
     say(
         rt,
         "  V of 1000 of bond 0, rounded once",
@@ -88,7 +88,7 @@ fn bond_values(rt: &HostRuntime) -> anyhow::Result<()> {
     Ok(())
 }
 
-pub(crate) fn strays(rt: &HostRuntime) -> anyhow::Result<()> {
+pub(crate) fn strays(rt: &HostRuntime) -> Result<(), Failed> {
     println!(rt; "where grosz go astray")?;
     bond_values(rt)?;
     let one_bond = deposit_of(&booked(&[(0, 1_000)])?, &DurationRates2020)?;
@@ -102,7 +102,7 @@ pub(crate) fn strays(rt: &HostRuntime) -> anyhow::Result<()> {
         row: share(0, 10_000, 42_500),
         kind: ClassKind::Liquidity,
     };
-    let (once, _) = foreign_share.valuation(1).context("A is too large")?;
+    let (once, _) = foreign_share.valuation(1).ok_or(Failed::NoValue)?;
     say(
         rt,
         "  A of 1 at 1.0000 and a rate of 4.2500, the rate applied once",

@@ -8,5 +8,5 @@ pub fn proved_figures() -> usize
     ensures count { result ≡ length figures }
     ensures hold { FiguresHold }
 {
-    24
+    25
 }

@@ -3,7 +3,7 @@
 
 #[cfg(test)]
 mod tests {
-    use frames::codec::{read, write};
+    use frames::codec::{read, read_fields, write};
     use frames::frame::Frame;
     use frames::kinds::{
         BookingFrame, BookingRecord, ClassFrame, DepositFrame, FaultFrame, PairFrame,
@@ -38,6 +38,16 @@ mod tests {
         F::Record: Drop,
     {
         read::<F>(line).err().map(|fault| u8::from(fault.refusal))
+    }
+
+    // The same of fields without their line.
+    fn fields_refused<F: Frame>(fields: &[u8]) -> Option<u8>
+    where
+        F::Record: Drop,
+    {
+        read_fields::<F>(fields)
+            .err()
+            .map(|fault| u8::from(fault.refusal))
     }
 
     // The seven lines of the example of two bonds.
@@ -114,6 +124,22 @@ mod tests {
             refused::<ClassFrame>(b"43020000014A000050000118"),
             Some(33)
         );
+    }
+
+    // Fields without their line; what is no digits is refused as that, whatever its length.
+    #[test]
+    fn fields_alone(rt: HostRuntime) -> Result<(), Fail> {
+        let item = read_fields::<BookingFrame>(b"0102000003E8")?;
+        assert_eq!(rt; item.security, 1);
+        assert!(rt; matches!(item.side, Side::Sold));
+        assert_eq!(rt; item.quantity, 1000);
+        assert_eq!(rt; fields_refused::<BookingFrame>(b"0102000003E8"), None);
+        assert_eq!(rt; fields_refused::<BookingFrame>(b"0102000003e8"), Some(30));
+        assert_eq!(rt; fields_refused::<BookingFrame>(b"G"), Some(30));
+        assert_eq!(rt; fields_refused::<BookingFrame>(b""), Some(32));
+        assert_eq!(rt; fields_refused::<BookingFrame>(b"0103000003"), Some(32));
+        assert_eq!(rt; fields_refused::<BookingFrame>(b"0103000003E8"), Some(33));
+        Ok(())
     }
 
     // A fault in words.

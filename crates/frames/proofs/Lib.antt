@@ -3,3 +3,4 @@ pub mod Reading
 pub mod Sound
 pub mod Writes
 pub mod Valued
+pub mod Spelled

@@ -87,13 +87,21 @@ fn record<F: Frame>(fields: &[u8]) -> Option<F::Record>
     F::record_of(&numbers)
 }
 
-/// The record whose fields these are.
-pub fn read_fields<F: Frame>(digits: Digits<'_>) -> Result<F::Record, Fault>
+/// The record whose fields these digits are: refusals 32 and 33. No digit is asked again.
+pub fn read_digits<F: Frame>(digits: Digits<'_>) -> Result<F::Record, Fault>
     ensures { Reads (λ x. text_of F.kind.widths (F.figures x)) (digits_refusal F.kind digits.entry.text.now) digits.entry.text.now result }
 {
     let fields = digits.text;
     check::<F>(fields)?;
     Ok(record::<F>(fields).unwrap())
+}
+
+/// The record whose fields these bytes are: refusals 30, 32 and 33.
+pub fn read_fields<F: Frame>(fields: &[u8]) -> Result<F::Record, Fault>
+    ensures { Reads (λ x. text_of F.kind.widths (F.figures x)) (digits_refusal F.kind fields.now) fields.now result }
+{
+    let digits = Digits::try_from(fields)?;
+    read_digits::<F>(digits)
 }
 
 /// The record whose frame this line is. A reader of one kind knows no other.
@@ -104,7 +112,7 @@ pub fn read<F: Frame>(line: &[u8]) -> Result<F::Record, Fault>
     if kind != F::KIND {
         return Err(Refusal::UnknownKind.at(0));
     }
-    read_fields::<F>(digits)
+    read_digits::<F>(digits)
 }
 
 // Fills `line` with the digits of these numbers in fields of these widths.

@@ -14,7 +14,7 @@ ghost use Rattle.std.specs.Prelude.{◌≡◌, Some};
 ghost use Rattle.terms.specs.Numbers.{layer_words};
 ghost use Rattle.terms.specs.Refusals.{refusal_words};
 
-use frames::codec::read_fields;
+use frames::codec::read_digits;
 use frames::frame::Frame;
 use frames::kinds::{
     BookingFrame, BookingRecord, ClassFrame, ClassRecord, DepositFrame, DepositRecord, FaultFrame,
@@ -182,7 +182,7 @@ pub struct Spoken<'a>(pub FrameLine<'a>);
 fn words_of<F: Frame>(part: Fields<'_>) -> Result<Words<F::Record>, Fault>
     ensures { ReadAs F.kind (λ words. F.figures words.0) part.entry.digits.text.now result }
 {
-    Ok(Words(read_fields::<F>(part.digits)?))
+    Ok(Words(read_digits::<F>(part.digits)?))
 }
 
 fn say<T: fmt::Display + Drop, W: fmt::Write>(

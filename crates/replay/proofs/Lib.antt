@@ -1,2 +1,3 @@
+mod Beside
 mod Days
 mod Lines

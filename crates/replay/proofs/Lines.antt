@@ -28,8 +28,8 @@ pub nets_none : (nets : ℕ → ℤ) → [] ≡ nets_words nets 0
 unfolding nets_words
 nets_none nets = refl
 
-pub nets_more : (nets : ℕ → ℤ) (n : ℕ) → nets_words nets n ++ net_words n (nets n) ≡ nets_words nets (n + 1)
+pub nets_more : (nets : ℕ → ℤ) (n : ℕ) (net : ℤ) → net ≡ nets n → nets_words nets n ++ net_words n net ≡ nets_words nets (n + 1)
 unfolding nets_words
-nets_more nets n =
+nets_more nets n net is =
     let next : suc n ≡ n + 1 = omega arith in
-    ap (nets_words nets) next
+    ap (λ v. nets_words nets n ++ net_words n v) is ∙ ap (nets_words nets) next

@@ -1,5 +1,6 @@
 -- The day of a desk: each order beside what it gave, and the law over all of them. Assumes nothing.
-use Rattle.std.specs.Prelude.{◌≡◌, ℕ, ◌<◌, List, map, length, Some, Option, Result, Ok, Err, Vec}
+use Rattle.std.specs.Prelude.{◌≡◌, ℕ, ◌<◌, List, map, length, Some, Option, Result, Ok, Err}
+use Rattle.std.specs.List.{zip}
 use Rattle.std.specs.Option.{unwrap_or}
 use Rattle.terms.specs.declared.fault.Fault.{Fault}
 use Rattle.lists.specs.Lists.{no_such_place}
@@ -11,7 +12,7 @@ use Rattle.histories.specs.Replays.{Basis}
 use Rattle.replay.specs.declared.order.Memory.{Memory}
 use Rattle.replay.specs.declared.order.Memory.TheVariants.{Classes, Matches, Entries, Bookings}
 use Rattle.replay.specs.declared.order.Order.{Order}
-use Rattle.replay.specs.declared.answer.Answer.{Answer}
+use Rattle.replay.specs.declared.answer.Answers.{Answers}
 use Rattle.replay.specs.declared.answer.Unmade.{Unmade}
 use Rattle.replay.specs.declared.answer.Unmade.TheVariants.{Refused, NoCall}
 use Rattle.replay.specs.declared.desks.Calls.{Calls}
@@ -19,16 +20,20 @@ use Rattle.replay.specs.declared.desks.Places.{Places}
 use Rattle.replay.specs.Scripts as scripts
 use Rattle.replay.specs.Scripts.{Beside}
 
--- the orders of these answers, and their entries
-abbrev pub orders_of : List Answer → List Order
-orders_of answers = map (λ answer. answer.order) answers
+-- each order beside the entry at its place
+abbrev pub answers_in : Answers → List (Order × Entry)
+answers_in a = zip a.orders.now a.entries.now
 
-abbrev pub entries_of : List Answer → List Entry
-entries_of answers = map (λ answer. answer.entry) answers
+-- the orders of these answers, and their entries
+abbrev pub orders_of : List (Order × Entry) → List Order
+orders_of answers = map (λ answer. answer.0) answers
+
+abbrev pub entries_of : List (Order × Entry) → List Entry
+entries_of answers = map (λ answer. answer.1) answers
 
 -- each of these orders beside one of these entries, by place; or the fault of the refused replay
-abbrev pub Answered : {A : Type 0} → List Order → List Entry → Result (Unit {0}) Fault → Result (Vec Answer A) Unmade → Type 0
-Answered orders entries (Ok _) (Ok answers) = (orders_of answers.items ≡ orders) × (entries_of answers.items ≡ entries)
+abbrev pub Answered : List Order → List Entry → Result (Unit {0}) Fault → Result Answers Unmade → Type 0
+Answered orders entries (Ok _) (Ok answers) = (orders_of (answers_in answers) ≡ orders) × (entries_of (answers_in answers) ≡ entries)
 Answered orders entries (Ok _) (Err unmade) = ⊥
 Answered orders entries (Err fault) (Ok answers) = ⊥
 Answered orders entries (Err fault) (Err unmade) = unmade ≡ Refused fault
@@ -46,12 +51,11 @@ entry_places places orders = unwrap_or places.entries (length orders)
 
 -- tops whose own calls are asked for as f and g say
 module _ {O P : Type 0} (f : Order → Option O) (g : Order → Option P) where
-  -- the script of the orders, and as many places as each memory is to have
+  -- the script of the orders, and as many places as each memory of a deposit is to have
   pub record Ready (places : Places) (orders : List Order) (calls : Calls O P) : Type 0 where
     pub beside : Beside f g orders calls.script.items
     pub classes : length calls.classes.items ≡ places.classes
     pub matches : length calls.matches.items ≡ places.matches
-    pub entries : length calls.entries.items ≡ entry_places places orders
 
   module _ {B : Type 0} (basis : Basis O P B) (places : Places) (book : B) (orders : List Order) where
     -- the tally before the first order
@@ -59,7 +63,7 @@ module _ {O P : Type 0} (f : Order → Option O) (g : Order → Option P) where
     opening = at_first basis.rules (basis.below.account book)
 
     -- A day: each order has one answer, in their order, and the entry beside it is that of the call that it asks for.
-    pub record Day (answers : List Answer) (beneath : B) : Type 0 where
+    pub record Day (answers : List (Order × Entry)) (beneath : B) : Type 0 where
       pub answered : orders_of answers ≡ orders
       pub script : List (Step O P)
       pub beside : Beside f g orders script
@@ -80,7 +84,7 @@ module _ {O P : Type 0} (f : Order → Option O) (g : Order → Option P) where
       pub same : beneath ≡ book
 
     -- a day, or why no call is made
-    abbrev pub DayOf : {A : Type 0} → Result (Vec Answer A) Unmade → B → Type 0
-    DayOf (Ok answers) beneath = Day answers.items beneath
+    abbrev pub DayOf : Result Answers Unmade → B → Type 0
+    DayOf (Ok answers) beneath = Day (answers_in answers) beneath
     DayOf (Err (Refused fault)) beneath = TooFew fault beneath
     DayOf (Err (NoCall order)) beneath = Uncalled order beneath

@@ -1,6 +1,6 @@
 -- What the program prints: a desk, an order and what it gave, and what is kept beneath, in plain words and zloty. Assumes nothing.
 use Rattle.terms.specs.Texts.{◌⧺◌, fed}
-use Rattle.std.specs.Prelude.{ℕ, zero, suc, cond, List, [], ◌∷◌, ℤ, pos, negsuc, unsigned_abs, Some, None, Option, Ok, Err, Result, codes, decimal, flat_map, Vec}
+use Rattle.std.specs.Prelude.{ℕ, zero, suc, cond, List, [], ◌∷◌, ℤ, pos, negsuc, unsigned_abs, Some, None, Option, Ok, Err, Result, codes, decimal, flat_map}
 use Rattle.terms.specs.declared.fault.Fault.{Fault}
 use Rattle.terms.specs.Faults.{fault_words}
 use Rattle.terms.specs.Limits.{security_count}
@@ -20,9 +20,10 @@ use Rattle.replay.specs.declared.order.Desk.{Desk}
 use Rattle.replay.specs.declared.order.Desk.TheVariants.{Rates, Pairs, Journal, Layered, Stacked}
 use Rattle.replay.specs.declared.order.PassedOver.{PassedOver}
 use Rattle.replay.specs.declared.order.PassedOver.TheVariants.{NoDeskCan, NotUnderstood}
-use Rattle.replay.specs.declared.answer.Answer.{Answer}
+use Rattle.replay.specs.declared.answer.Answers.{Answers}
 use Rattle.replay.specs.declared.answer.Unmade.{Unmade}
 use Rattle.replay.specs.declared.answer.Unmade.TheVariants.{Refused, NoCall}
+use Rattle.replay.specs.Days.{answers_in}
 
 -- a desk, and what it is opened over
 abbrev pub desk_words : Desk → List ℕ
@@ -114,18 +115,23 @@ entry_lines (Done (Err fault)) = refused_line fault
 entry_lines (Told (Ok t)) = telling_lines t
 entry_lines (Told (Err fault)) = refused_line fault
 
--- an order, and below it what it gave
-unfoldable pub answer_lines : Answer → List ℕ
-answer_lines answer = fed (order_words answer.order) ⧺ entry_lines answer.entry
+-- an order, and below it what its call gave, if there is an entry for it
+unfoldable pub answer_lines : Order → Option Entry → List ℕ
+answer_lines order (Some entry) = fed (order_words order) ⧺ entry_lines entry
+answer_lines order None = []
+
+-- all answers of a day, in their order
+abbrev pub answers_lines : List (Order × Entry) → List ℕ
+answers_lines answers = flat_map (λ answer. answer_lines answer.0 (Some answer.1)) answers
 
 -- why no call is made
 abbrev pub unmade_lines : Unmade → List ℕ
 unmade_lines (Refused fault) = fed (codes "no call is made") ⧺ refused_line fault
 unmade_lines (NoCall order) = fed (codes "no call is made") ⧺ fed (codes "  this desk has no call to " ⧺ order_words order)
 
--- all answers of a day, in their order; or why no call is made
-abbrev pub outcome_lines : {A : Type 0} → Result (Vec Answer A) Unmade → List ℕ
-outcome_lines (Ok answers) = flat_map answer_lines answers.items
+-- the answers of a day; or why no call is made
+abbrev pub outcome_lines : Result Answers Unmade → List ℕ
+outcome_lines (Ok answers) = answers_lines (answers_in answers)
 outcome_lines (Err unmade) = unmade_lines unmade
 
 -- the net of a security, if it is other than 0
@@ -143,5 +149,5 @@ unfoldable pub kept_line : (ℕ → ℤ) → ℕ → List ℕ
 kept_line nets left = fed (codes "beneath: bookings left " ⧺ decimal left ⧺ nets_words nets security_count)
 
 -- a day, and what is kept beneath after it
-abbrev pub day_lines : {A : Type 0} → Result (Vec Answer A) Unmade → (ℕ → ℤ) → ℕ → List ℕ
-day_lines answers nets left = outcome_lines answers ⧺ kept_line nets left
+abbrev pub day_lines : Result Answers Unmade → (ℕ → ℤ) → ℕ → List ℕ
+day_lines outcome nets left = outcome_lines outcome ⧺ kept_line nets left

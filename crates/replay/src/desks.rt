@@ -1,11 +1,11 @@
 // The desks: what each is opened over, and its day.
-ghost use Rattle.std.specs.Prelude.{◌≡◌, IfOk, MatchResult, OnOk, length};
+ghost use Rattle.std.specs.Prelude.{◌≡◌, ◌≤◌, IfOk, MatchResult, OnOk, length, take};
 ghost use Rattle.books.specs.Journals.{journal_meaning};
-ghost use Rattle.replay.specs.Days.{Answered, DayOf, Ready, given};
+ghost use Rattle.replay.specs.Days.{Answered, DayOf, Ready, entry_places, given};
 ghost use Rattle.replay.specs.Scripts.{NoCall, trial_call};
 ghost use Rattle.tops.specs.Tallies.{trial_rules};
 
-use crate::answer::{Answers, Unmade, answers_of};
+use crate::answer::{Outcome, Unmade, answers_of};
 use crate::order::{Desk, Memory, Order};
 use crate::script::{OwnCall, script_of};
 use crate::sheet::{pairs_sheet, surcharged_sheet};
@@ -21,6 +21,7 @@ use lists::list::List;
 use sheets::duration_rates::DurationRates2020;
 use sheets::rate_sheet::RateSheet;
 use std::alloc::{AllocError, Global};
+use std::io::{LineWriter, Write};
 use surcharges::cover::Cover;
 use surcharges::plain::Plain;
 use surcharges::surcharge::Surcharge;
@@ -70,16 +71,18 @@ const NO_BOOKING: Booking = Booking {
     quantity: 0,
 };
 
+// Kept: as a booking: it only fills the memory of a log.
+const NO_ENTRY: Entry = Entry::Done(Ok(()));
+
 // The rates of January 2020, with no surcharge above them.
 type Rates2020 = Plain<DurationRates2020>;
 
-// What the calls of a day are made with: their script, and the memory that they get.
+// What the calls of a day are made with: their script, and the memory that deposits get.
 #[derive(Drop)]
 struct Calls<O, P> {
     script: Vec<Step<O, P>>,
     classes: Vec<ClassMargin>,
     matches: Vec<Match>,
-    entries: Vec<Entry>,
 }
 
 // What a day needs: the orders, and how much memory their calls get.
@@ -103,37 +106,49 @@ impl<'a> Day<'a> {
             Ok(script) => script,
             Err(order) => return Ok(Err(order)),
         };
-        let entry_places = places.entries.unwrap_or(self.orders.len());
         Ok(Ok(Calls {
             script,
             classes: vec![in heap; ClassMargin::NONE; places.classes]?,
             matches: vec![in heap; Match::NONE; places.matches]?,
-            entries: vec![in heap; Entry::Done(Ok(())); entry_places]?,
         }))
     }
 
+    // How many places the log has.
+    fn log_places(&self) -> usize
+        ensures { result ≡ entry_places self.now.places self.now.orders.now }
+    {
+        self.places.entries.unwrap_or(self.orders.len())
+    }
+
+    // A journal's memory.
+    fn booking_memory(&self) -> Result<Vec<Booking>, AllocError> {
+        vec![in self.heap; NO_BOOKING; self.places.bookings]
+    }
+
     // Each order beside what its call gave, or why no call was made.
-    fn answers(&self, made: Result<(), Fault>, entries: &[Entry]) -> Result<Answers, AllocError>
-        requires { OnOk made (length self.now.orders.now ≡ length entries.now) }
-        ensures { IfOk result (λ answers. Answered self.now.orders.now entries.now made answers) }
+    fn outcome<'m>(&self, made: Result<(), Fault>, entries: &'m [Entry]) -> Outcome<'a, 'm>
+        requires { OnOk made (length self.now.orders.now ≤ length entries.now) }
+        ensures { Answered self.now.orders.now (take (length self.now.orders.now) entries.now) made result }
     {
         match made {
-            Ok(()) => Ok(Ok(answers_of(self.heap, self.orders, entries)?)),
-            Err(fault) => Ok(Err(Unmade::Refused(fault))),
+            Ok(()) => Ok(answers_of(self.orders, entries)),
+            Err(fault) => Err(Unmade::Refused(fault)),
         }
     }
 
     // The day of a desk over a book that is handed in, and the book beneath after it.
-    fn over<T: Top, U: Cover + Drop>(
+    fn over<'m, T: Top, U: Cover + Drop>(
         &self,
         book: T::Below,
         sheet: U::Below,
-    ) -> Result<(T::Below, Answers), AllocError>
+        entries: &'m mut [Entry],
+    ) -> Result<(T::Below, Outcome<'a, 'm>), AllocError>
     where
         T::Own: OwnCall,
         U::Own: OwnCall,
         T::Below: Drop,
         U::Below: Drop,
+        requires { length entries.old ≡ entry_places self.now.places self.now.orders.now }
         ensures { IfOk result (λ day. DayOf T.Own.OwnCall.asked U.Own.OwnCall.asked
             (record {
               rules = T.Top.rules;
@@ -147,12 +162,11 @@ impl<'a> Day<'a> {
             script,
             mut classes,
             mut matches,
-            mut entries,
         } = match self.calls::<T::Own, U::Own>()? {
             Ok(calls) => calls,
             Err(order) => return Ok((book, Err(Unmade::NoCall(order)))),
         };
-        let mut log = List::over(&mut entries);
+        let mut log = List::over(entries);
         let (beneath, made) = replay_and_close::<T, U>(
             book,
             sheet,
@@ -161,38 +175,38 @@ impl<'a> Day<'a> {
             &mut matches,
             &mut log,
         );
-        let answers = self.answers(made, log.records())?;
-        Ok((beneath, answers))
+        Ok((beneath, self.outcome(made, entries)))
     }
 
     // The day of a desk with a trial layer above a book that is lent.
-    fn on_lent<B: Book, U: Cover + Drop>(
+    fn on_lent<'m, B: Book, U: Cover + Drop>(
         &self,
         book: &mut B,
         sheet: U::Below,
-    ) -> Result<Answers, AllocError>
+        entries: &'m mut [Entry],
+    ) -> Result<Outcome<'a, 'm>, AllocError>
     where
         U::Own: OwnCall,
         U::Below: Drop,
-        ensures { IfOk result (λ answers. DayOf trial_call U.Own.OwnCall.asked
+        requires { length entries.old ≡ entry_places self.now.places self.now.orders.now }
+        ensures { IfOk result (λ outcome. DayOf trial_call U.Own.OwnCall.asked
             (record {
               rules = trial_rules;
               means = U.Cover.means;
               rows = U.Below.Sheet.rows sheet;
               below = B.Book.meaning;
             })
-            self.now.places book.old self.now.orders.now answers book.new) }
+            self.now.places book.old self.now.orders.now outcome book.new) }
     {
         let Calls {
             script,
             mut classes,
             mut matches,
-            mut entries,
         } = match self.calls::<TrialCall, U::Own>()? {
             Ok(calls) => calls,
             Err(order) => return Ok(Err(Unmade::NoCall(order))),
         };
-        let mut log = List::over(&mut entries);
+        let mut log = List::over(entries);
         let made = replay_on_lent::<B, U>(
             book,
             sheet,
@@ -201,38 +215,38 @@ impl<'a> Day<'a> {
             &mut matches,
             &mut log,
         );
-        let answers = self.answers(made, log.records())?;
-        Ok(answers)
+        Ok(self.outcome(made, entries))
     }
 
     // The day of a desk with a trial layer above a journal.
-    fn on_journal<U: Cover + Drop>(
+    fn on_journal<'m, U: Cover + Drop>(
         &self,
         journal: &mut Journal<'_>,
         sheet: U::Below,
-    ) -> Result<Answers, AllocError>
+        entries: &'m mut [Entry],
+    ) -> Result<Outcome<'a, 'm>, AllocError>
     where
         U::Own: OwnCall,
         U::Below: Drop,
-        ensures { IfOk result (λ answers. DayOf trial_call U.Own.OwnCall.asked
+        requires { length entries.old ≡ entry_places self.now.places self.now.orders.now }
+        ensures { IfOk result (λ outcome. DayOf trial_call U.Own.OwnCall.asked
             (record {
               rules = trial_rules;
               means = U.Cover.means;
               rows = U.Below.Sheet.rows sheet;
               below = journal_meaning;
             })
-            self.now.places journal.old self.now.orders.now answers journal.new) }
+            self.now.places journal.old self.now.orders.now outcome journal.new) }
     {
         let Calls {
             script,
             mut classes,
             mut matches,
-            mut entries,
         } = match self.calls::<TrialCall, U::Own>()? {
             Ok(calls) => calls,
             Err(order) => return Ok(Err(Unmade::NoCall(order))),
         };
-        let mut log = List::over(&mut entries);
+        let mut log = List::over(entries);
         let made = replay_on_journal::<U>(
             journal,
             sheet,
@@ -241,58 +255,86 @@ impl<'a> Day<'a> {
             &mut matches,
             &mut log,
         );
-        let answers = self.answers(made, log.records())?;
-        Ok(answers)
+        Ok(self.outcome(made, entries))
     }
 }
 
-// Says what a day gave, and what is kept beneath the desk.
-fn say<B: Book + Drop>(rt: &HostRuntime, answers: &Answers, beneath: &B) -> anyhow::Result<()> {
-    let day = DayLines { answers, beneath };
-    print!(rt; "{day}")?;
+// Says what a day gave, and what is kept beneath the desk. Each line is written out by itself.
+fn say<B: Book + Drop>(
+    rt: &HostRuntime,
+    outcome: &Outcome<'_, '_>,
+    beneath: &B,
+) -> anyhow::Result<()> {
+    let day = DayLines { outcome, beneath };
+    let mut lines = LineWriter::new(rt.alloc(), rt.stdout())?;
+    write!(lines, "{day}")?;
+    lines.flush()?;
     Ok(())
+}
+
+// Each desk has a function of its own, so that no day takes the stack of all.
+impl Day<'_> {
+    fn at_rates(&self, rt: &HostRuntime) -> anyhow::Result<()> {
+        let mut entries = vec![in self.heap; NO_ENTRY; self.log_places()]?;
+        let (table, outcome) = self.over::<Trial<NetTable>, Rates2020>(
+            NetTable::open(),
+            DurationRates2020,
+            &mut entries,
+        )?;
+        say(rt, &outcome, &table)
+    }
+
+    fn at_pairs(&self, rt: &HostRuntime) -> anyhow::Result<()> {
+        let mut entries = vec![in self.heap; NO_ENTRY; self.log_places()]?;
+        let (layer, outcome) = self.over::<Trial<Trial<NetTable>>, Surcharge<RateSheet>>(
+            Trial::open(NetTable::open()),
+            pairs_sheet()?,
+            &mut entries,
+        )?;
+        say(rt, &outcome, &layer)
+    }
+
+    fn at_journal(&self, rt: &HostRuntime) -> anyhow::Result<()> {
+        let mut entries = vec![in self.heap; NO_ENTRY; self.log_places()]?;
+        let mut bookings = self.booking_memory()?;
+        let (journal, outcome) = self.over::<Bare<Journal>, Rates2020>(
+            Journal::open(&mut bookings),
+            DurationRates2020,
+            &mut entries,
+        )?;
+        say(rt, &outcome, &journal)
+    }
+
+    fn at_layered(&self, rt: &HostRuntime) -> anyhow::Result<()> {
+        let mut entries = vec![in self.heap; NO_ENTRY; self.log_places()]?;
+        let mut bookings = self.booking_memory()?;
+        let mut journal = Journal::open(&mut bookings);
+        let outcome = self.on_journal::<Rates2020>(&mut journal, DurationRates2020, &mut entries)?;
+        say(rt, &outcome, &journal)
+    }
+
+    fn at_stacked(&self, rt: &HostRuntime) -> anyhow::Result<()> {
+        let mut entries = vec![in self.heap; NO_ENTRY; self.log_places()]?;
+        let mut table = NetTable::open();
+        let outcome = self.on_lent::<NetTable, Surcharge<Surcharge<RateSheet>>>(
+            &mut table,
+            surcharged_sheet()?,
+            &mut entries,
+        )?;
+        say(rt, &outcome, &table)
+    }
 }
 
 impl Desk {
     // The day of the desk.
     pub(crate) fn run(self, rt: &HostRuntime, day: Day<'_>) -> anyhow::Result<()> {
-        let mut bookings = vec![in rt.alloc(); NO_BOOKING; day.places.bookings]?;
-        let mut table = NetTable::open();
         // Kept: each desk is of other types, so no value that could be called chooses one.
         match self {
-            Desk::Rates => {
-                let (table, answers) = day.over::<Trial<NetTable>, Rates2020>(
-                    table,
-                    DurationRates2020,
-                )?;
-                say(rt, &answers, &table)
-            }
-            Desk::Pairs => {
-                let (layer, answers) = day.over::<Trial<Trial<NetTable>>, Surcharge<RateSheet>>(
-                    Trial::open(table),
-                    pairs_sheet()?,
-                )?;
-                say(rt, &answers, &layer)
-            }
-            Desk::Journal => {
-                let (journal, answers) = day.over::<Bare<Journal>, Rates2020>(
-                    Journal::open(&mut bookings),
-                    DurationRates2020,
-                )?;
-                say(rt, &answers, &journal)
-            }
-            Desk::Layered => {
-                let mut journal = Journal::open(&mut bookings);
-                let answers = day.on_journal::<Rates2020>(&mut journal, DurationRates2020)?;
-                say(rt, &answers, &journal)
-            }
-            Desk::Stacked => {
-                let answers = day.on_lent::<NetTable, Surcharge<Surcharge<RateSheet>>>(
-                    &mut table,
-                    surcharged_sheet()?,
-                )?;
-                say(rt, &answers, &table)
-            }
+            Desk::Rates => day.at_rates(rt),
+            Desk::Pairs => day.at_pairs(rt),
+            Desk::Journal => day.at_journal(rt),
+            Desk::Layered => day.at_layered(rt),
+            Desk::Stacked => day.at_stacked(rt),
         }
     }
 }

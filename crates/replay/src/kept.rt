@@ -1,9 +1,9 @@
 // What is kept in the book beneath a desk, in plain words.
 ghost use Rattle.replay.specs.Words.{bought_or_sold, kept_line, net_words, nets_words};
-ghost use Rattle.std.specs.Prelude.{◌≡◌, Some};
+ghost use Rattle.std.specs.Prelude.{◌≡◌, ◌<◌, Some, pos, slice_index_or};
 ghost use Rattle.terms.specs.Limits.{security_count};
 
-use books::book::{Book, net_of};
+use books::book::Book;
 use std::fmt;
 use terms::limits::SECURITIES;
 
@@ -21,12 +21,13 @@ struct NetWords {
 }
 
 impl NetWords {
-    // The net that a book has of a security.
-    fn of<B: Book>(book: &B, security: u16) -> NetWords
+    // The net of a security, out of all.
+    fn of(nets: &[i64; SECURITIES], security: u16) -> NetWords
+        requires { security < security_count }
         ensures security { result.security ≡ security }
-        ensures net { result.net ≡ B.Positions.nets book.now security }
+        ensures net { result.net ≡ slice_index_or nets.now security (pos 0) }
     {
-        let net = net_of(book, security);
+        let net = nets[security as usize];
         NetWords { security, net }
     }
 }
@@ -54,8 +55,9 @@ impl<B: Book + Drop> fmt::Display for NetsWords<'_, B> {
     ghost output = { λ words. Some (nets_words (B.Positions.nets words.0.now) security_count) };
 
     fn fmt<W: fmt::Write>(&self, f: &mut fmt::Formatter<W>) -> fmt::Result {
+        let nets = self.0.all_nets();
         for security in 0..SECURITIES as u16 {
-            NetWords::of(self.0, security).fmt(f)?;
+            NetWords::of(&nets, security).fmt(f)?;
         }
         Ok(())
     }

@@ -1,8 +1,10 @@
 // Desks, orders and what they gave, in plain words and zloty.
-ghost use Rattle.replay.specs.Words.{answer_lines, booking_words, buy_or_sell, day_lines, desk_words, entry_lines, order_words, outcome_lines, passed_over, refused_line, setting_words, unmade_lines};
-ghost use Rattle.std.specs.Prelude.{◌≡◌, Some, flat_map};
+ghost use Rattle.replay.specs.Days.{answers_in};
+ghost use Rattle.replay.specs.Words.{answer_lines, answers_lines, booking_words, buy_or_sell, day_lines, desk_words, entry_lines, order_words, outcome_lines, passed_over, refused_line, setting_words, unmade_lines};
+ghost use Rattle.std.specs.Prelude.{◌≡◌, Some};
+ghost use Rattle.std.specs.Option.{option_copied};
 
-use crate::answer::{Answer, Answers, Unmade};
+use crate::answer::{Answers, Outcome, Unmade};
 use crate::kept::KeptLine;
 use crate::order::{Desk, Order, PassedOver};
 use crate::told::TellingLines;
@@ -128,29 +130,37 @@ impl fmt::Display for EntryLines<'_> {
     }
 }
 
-// An order, and below it what it gave.
-impl fmt::Display for Answer {
-    ghost output = { λ answer. Some (answer_lines answer) };
+// An order, and below it what its call gave, if there is an entry for it.
+#[derive(Clone, Copy)]
+struct AnswerLines<'a>(&'a Order, Option<&'a Entry>);
+
+impl fmt::Display for AnswerLines<'_> {
+    ghost output = { λ lines. Some (answer_lines lines.0.now (option_copied lines.1)) };
 
     #[tactic(auto, unfolding(crate::specs::Words::answer_lines))]
     fn fmt<W: fmt::Write>(&self, f: &mut fmt::Formatter<W>) -> fmt::Result {
-        let order = self.order;
-        let entry = EntryLines(&self.entry);
-        writeln!(f, "{order}")?;
-        entry.fmt(f)
+        match self.1 {
+            Some(entry) => {
+                let order = *self.0;
+                writeln!(f, "{order}")?;
+                EntryLines(entry).fmt(f)
+            }
+            None => Ok(()),
+        }
     }
 }
 
 // All answers of a desk, in their order.
 #[derive(Clone, Copy)]
-struct AnswersLines<'a>(&'a [Answer]);
+struct AnswersLines<'a>(&'a Answers<'a, 'a>);
 
 impl fmt::Display for AnswersLines<'_> {
-    ghost output = { λ lines. Some (flat_map answer_lines lines.0.now) };
+    ghost output = { λ lines. Some (answers_lines (answers_in lines.0.now)) };
 
     fn fmt<W: fmt::Write>(&self, f: &mut fmt::Formatter<W>) -> fmt::Result {
-        for answer in self.0 {
-            write!(f, "{answer}")?;
+        // Kept: no plainer: of a `zip` the proof knows its items by their number alone, so that the entry is asked for by its place.
+        for (place, order) in self.0.orders.iter().enumerate() {
+            AnswerLines(order, self.0.entry(place)).fmt(f)?;
         }
         Ok(())
     }
@@ -171,7 +181,7 @@ impl fmt::Display for Unmade {
 
 // The answers of a desk, or why no call was made.
 #[derive(Clone, Copy)]
-struct OutcomeLines<'a>(&'a Answers);
+struct OutcomeLines<'a>(&'a Outcome<'a, 'a>);
 
 impl fmt::Display for OutcomeLines<'_> {
     ghost output = { λ lines. Some (outcome_lines lines.0.now) };
@@ -187,15 +197,15 @@ impl fmt::Display for OutcomeLines<'_> {
 // The day of a desk: its answers, and what is kept beneath after them.
 #[derive(Drop)]
 pub(crate) struct DayLines<'a, B: Book> {
-    pub(crate) answers: &'a Answers,
+    pub(crate) outcome: &'a Outcome<'a, 'a>,
     pub(crate) beneath: &'a B,
 }
 
 impl<B: Book + Drop> fmt::Display for DayLines<'_, B> {
-    ghost output = { λ day. Some (day_lines day.answers.now (B.Positions.nets day.beneath.now) (B.Book.meaning.account day.beneath.now).left) };
+    ghost output = { λ day. Some (day_lines day.outcome.now (B.Positions.nets day.beneath.now) (B.Book.meaning.account day.beneath.now).left) };
 
     fn fmt<W: fmt::Write>(&self, f: &mut fmt::Formatter<W>) -> fmt::Result {
-        let outcome = OutcomeLines(self.answers);
+        let outcome = OutcomeLines(self.outcome);
         let kept = KeptLine(self.beneath);
         write!(f, "{outcome}{kept}")
     }

@@ -1,10 +1,10 @@
 // Opening and booking.
 ghost use Rattle.books.specs.Books.{Books, no_holdings};
-ghost use Rattle.books.specs.Ledgers.{ledger_account, ledger_meaning};
+ghost use Rattle.books.specs.Ledgers.{ledger_account, ledger_meaning, ledger_nets};
 ghost use Rattle.std.specs.Prelude.{◌≡◌};
 
 use super::Ledger;
-use crate::book::Book;
+use crate::book::{Book, Positions};
 use crate::booking::Booking;
 use crate::judge::judge;
 use terms::fault::Fault;
@@ -23,9 +23,9 @@ impl Ledger {
         }
     }
 
-    /// What a book holds, with so many bookings left.
-    pub fn copy_of<B: Book>(book: &B, left: u32) -> Self
-        ensures holdings { (ledger_account result).holdings ≡ (B.Book.meaning.account book.now).holdings }
+    /// The nets of a book, with so many bookings left.
+    pub fn copy_of<B: Positions>(book: &B, left: u32) -> Self
+        ensures nets { ledger_nets result ≡ B.Positions.nets book.now }
         ensures left { (ledger_account result).left ≡ left }
     {
         let mut ledger = Ledger::with_nets_of(book);
@@ -33,9 +33,17 @@ impl Ledger {
         ledger
     }
 
-    // What a book holds, with no booking left.
-    fn with_nets_of<B: Book>(book: &B) -> Self
+    /// What a book holds, with so many bookings left.
+    pub fn copy_of_book<B: Book>(book: &B, left: u32) -> Self
         ensures holdings { (ledger_account result).holdings ≡ (B.Book.meaning.account book.now).holdings }
+        ensures left { (ledger_account result).left ≡ left }
+    {
+        Ledger::copy_of(book, left)
+    }
+
+    // The nets of a book, with no booking left.
+    fn with_nets_of<B: Positions>(book: &B) -> Self
+        ensures nets { ledger_nets result ≡ B.Positions.nets book.now }
         ensures left { (ledger_account result).left ≡ 0 }
     {
         Ledger {

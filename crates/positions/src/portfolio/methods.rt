@@ -1,6 +1,10 @@
 // Valuing a portfolio, and summing it up.
-ghost use Rattle.positions.specs.Portfolios.{Opens};
+ghost use Rattle.positions.specs.ClassSums.{Summed};
+ghost use Rattle.positions.specs.Portfolios.{Opens, valuations_of};
 ghost use Rattle.positions.specs.Sums.{SumsUp};
+ghost use Rattle.positions.specs.Values.{count_all_lem};
+ghost use Rattle.terms.specs.Limits.{security_count};
+ghost use Rattle.std.specs.Prelude.{◌≡◌};
 
 use super::Portfolio;
 use crate::class_sums::ClassSums;
@@ -22,7 +26,9 @@ impl Portfolio {
     /// What its classes sum to, in one pass over the positions.
     #[tactic(auto, using(crate::proofs::Tables::sums_up))]
     pub fn class_sums(&self) -> ClassSums
-        ensures { SumsUp self.now result }
+        ensures sums_up { SumsUp self.now result }
+        ensures summed { Summed (valuations_of self.now) security_count result.classes }
+        ensures held { result.held ≡ count_all_lem (valuations_of self.now) security_count }
     {
         ClassSums {
             classes: class_sums_of(&self.all),

@@ -21,7 +21,7 @@ impl<B: Book> Trial<B> {
         ensures holdings { (trial_account result).holdings ≡ (B.Book.meaning.account below).holdings }
         ensures left { (trial_account result).left ≡ trial_limit }
     {
-        let above = Ledger::copy_of(&below, TRIAL_BOOKINGS as u32);
+        let above = Ledger::copy_of_book(&below, TRIAL_BOOKINGS as u32);
         Trial { below, above }
     }
 
@@ -103,7 +103,7 @@ impl<B: Book> Trial<B> {
         ensures holdings { (trial_account self.new).holdings ≡ (B.Book.meaning.account self.old.below).holdings }
         ensures left { (trial_account self.new).left ≡ trial_limit }
     {
-        self.above = Ledger::copy_of(&self.below, TRIAL_BOOKINGS as u32);
+        self.above = Ledger::copy_of_book(&self.below, TRIAL_BOOKINGS as u32);
     }
 }
 

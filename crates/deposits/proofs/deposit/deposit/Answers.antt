@@ -11,7 +11,7 @@ use Rattle.deposits.proofs.deposit.deposit.Goals.{After-class_sums}
 same : (g : given.Over) (c : After-class_sums g) → exposure_in c.class_sums.result ≡ exposure_of rounded (g.S.Sheet.rows c.args.sheet.now) (g.P.Positions.nets c.args.book.now)
 same g c =
     let h = c.in_ok-portfolio.ensures in
-    c.class_sums.ensures (g.S.Sheet.rows c.args.sheet.now) (g.S.Sheet.lawful c.args.sheet.now) (g.P.Positions.nets c.args.book.now) h.1
+    c.class_sums.ensures.sums_up (g.S.Sheet.rows c.args.sheet.now) (g.S.Sheet.lawful c.args.sheet.now) (g.P.Positions.nets c.args.book.now) h.1
 
 pub returns-clause-deposits : goal.returns-clause-deposits
 returns-clause-deposits g c =

@@ -31,4 +31,4 @@ returns g c =
     let known = ap (λ b. cond b (Some frame.kind) None) (eq-eqb frame.kind.byte frame.kind.byte refl) in
     let told = c.in_ok-kind.ensures in
     line_reads frame.kind (sound_listed _ laws.listed) frame.figures laws.carried laws.chosen laws.told laws.made kinds known line c.in_ok-kind.digits.text.now told.0
-    (sym laws.shaped.of_byte ∙ sym c.KIND.ensures ∙ sym c.if-kind-KIND.false ∙ told.1) told.2 c.read_fields.result c.read_fields.ensures
+    (sym laws.shaped.of_byte ∙ sym c.KIND.ensures ∙ sym c.if-kind-KIND.false ∙ told.1) told.2 c.read_digits.result c.read_digits.ensures

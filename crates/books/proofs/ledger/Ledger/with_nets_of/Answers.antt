@@ -1,4 +1,4 @@
-use Rattle.std.proofs.Common.{◌≡◌, ℕ, ◌<◌, ◌≤◌, length, get_or, pos, sym, refl, ap, ◌∙◌, subst, ⊎_elim, arith}
+use Rattle.std.proofs.Common.{◌≡◌, ℕ, ◌<◌, ◌≤◌, length, get_or, pos, sym, refl, ◌∙◌, subst, ⊎_elim, arith}
 use Rattle.std.proofs.lemmas.Bool.{cases_lt}
 use Rattle.std.proofs.lemmas.List.{get_or_past}
 use Rattle.terms.specs.Limits.{net_limit, security_count}
@@ -24,7 +24,4 @@ invariant_of-result g c =
     record { long = long g d; limited = λ s. subst (Within net_limit) (sym (copied g d s)) (g.B.Positions.limited c.args.book.now s) }
 
 pub returns : goal.returns
-returns g c = let d = (goal.at.returns g c).After-all_nets in record {
-  holdings = λ j s. record { net = (copied g d s ∙ ap (λ n. n s) (g.met.B.Book.netted c.args.book.now)) j };
-  left = refl;
-}
+returns g c = record { nets = λ j s. copied g (goal.at.returns g c).After-all_nets s j; left = refl }

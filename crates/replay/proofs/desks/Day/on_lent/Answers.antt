@@ -1,10 +1,15 @@
-use Rattle.std.proofs.Common.{rules}
+use Rattle.std.proofs.Common.{◌≡◌, rules}
 use Rattle.replay.specs.Scripts.{trial_call}
-use Rattle.replay.proofs.Days.{closed_each, day_of}
+use Rattle.lists.specs.Lists.{lender}
+use Rattle.replay.proofs.Days.{closed_each, day_of, still_lent}
 use Rattle.replay.proofs.desks.Day.on_lent.Goals as goal
 
-pub answers-requires : goal.answers-requires
-answers-requires g c = closed_each trial_call g.U.Own.OwnCall.asked _ _ c.args.self.now.orders.now c.deref.result.now _ c.replay_on_lent-made.result c.records.result.now c.replay_on_lent-made.ensures (search rules) (search rules)
+pub outcome-requires : goal.outcome-requires
+outcome-requires g c =
+    let kept : lender c.replay_on_lent-made.new.log ≡ lender c.over-log.result = still_lent trial_call g.U.Own.OwnCall.asked _ _ c.args.self.now.orders.now c.deref.result.now _ c.replay_on_lent-made.result c.replay_on_lent-made.ensures in
+    closed_each trial_call g.U.Own.OwnCall.asked _ _ c.args.self.now.orders.now c.deref.result.now _ c.replay_on_lent-made.result _ c.replay_on_lent-made.ensures (search rules) (search rules)
 
 pub returns : goal.returns
-returns g c = day_of trial_call g.U.Own.OwnCall.asked _ _ c.args.self.now.orders.now c.deref.result.now _ c.args.self.now.places c.replay_on_lent-made.result c.records.result.now c.in_ok-answers.answers c.replay_on_lent-made.ensures (search rules) (search rules) (search rules) (search rules) (search rules) (search rules)
+returns g c =
+    let kept : lender c.replay_on_lent-made.new.log ≡ lender c.over-log.result = still_lent trial_call g.U.Own.OwnCall.asked _ _ c.args.self.now.orders.now c.deref.result.now _ c.replay_on_lent-made.result c.replay_on_lent-made.ensures in
+    day_of trial_call g.U.Own.OwnCall.asked _ _ c.args.self.now.orders.now c.deref.result.now _ c.args.self.now.places c.replay_on_lent-made.result _ c.outcome.result c.replay_on_lent-made.ensures (search rules) (search rules) (search rules) (search rules) (search rules) c.outcome.ensures

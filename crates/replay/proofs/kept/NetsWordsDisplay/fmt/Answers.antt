@@ -8,4 +8,4 @@ loop-security-init g c = λ plain. has_written_of_eq _ _ _ _ _ (nets_none _) (se
 
 pub loop-security-preserved : goal.loop-security-preserved
 loop-security-preserved g c = λ plain.
-    has_written_of_eq _ _ _ _ _ (nets_more _ _) (has_written_append _ _ _ _ _ _ (c.loop-security.invariant plain) (search rules))
+    has_written_of_eq _ _ _ _ _ (nets_more _ _ c.of.result.net (search rules)) (has_written_append _ _ _ _ _ _ (c.loop-security.invariant plain) (search rules))
