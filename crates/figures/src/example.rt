@@ -74,8 +74,9 @@ struct PrintedBond {
     value: Money,
     duration: Duration,
     position: Money,
-    // the position as it is kept, in 10^-4 zloty, which the example does not print
-    kept: Amount,
+    // value and position as they are kept, in 10^-4 zloty, which the example does not print
+    kept_value: Amount,
+    kept_position: Amount,
 }
 
 const BOUGHT_POSITION: Money = Money(296_894_935);
@@ -91,7 +92,8 @@ const BOUGHT: PrintedBond = PrintedBond {
     value: Money(112_640_000),
     duration: Duration(2_635_786),
     position: BOUGHT_POSITION,
-    kept: Amount(29_689_493_504),
+    kept_value: Amount(11_264_000_000),
+    kept_position: Amount(29_689_493_504),
 };
 
 const SOLD: PrintedBond = PrintedBond {
@@ -103,7 +105,8 @@ const SOLD: PrintedBond = PrintedBond {
     value: Money(105_182_000),
     duration: Duration(2_977_599),
     position: SOLD_POSITION,
-    kept: Amount(31_318_981_802),
+    kept_value: Amount(10_518_200_000),
+    kept_position: Amount(31_318_981_802),
 };
 
 // What a portfolio owes: K and S, the three risks and their sum.
@@ -162,13 +165,19 @@ fn say_bond(rt: &HostRuntime, book: &NetTable, printed: PrintedBond) -> Result<(
     say(rt, "  quantity", net, printed.booking.quantity)?;
     say(rt, "  price", Price(told.row.price), printed.price)?;
     say(rt, "  value", in_grosz(value), printed.value)?;
+    say(
+        rt,
+        "  value, as kept",
+        Amount(value.units()),
+        printed.kept_value,
+    )?;
     say(rt, "  md", Duration(told.row.duration), printed.duration)?;
     say(rt, "  position", in_grosz(position), printed.position)?;
     say(
         rt,
         "  position, as kept",
         Amount(position.units()),
-        printed.kept,
+        printed.kept_position,
     )?;
     say(rt, "  class", told.row.class, CLASS)?;
     Ok(())
